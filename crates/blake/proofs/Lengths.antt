@@ -1,0 +1,56 @@
+-- How long each result is, and that a digest is 32 bytes, each below 256.
+use mathlib.Core.Path.{_≡_, subst⁻¹}
+use mathlib.Core.List.{List}
+use mathlib.Core.Logic.{by-cases}
+use Prim.Native.Nat.{ℕ, zero, suc, _/_, _%_, _^_, _*_, _<_}
+use native.Mathlib.Nat.{mod-lt}
+use native.Mathlib.Decide.{decLt}
+use native.Mathlib.Omega.{arith}
+use lib.Dec.{lit<}
+use lib.ListN.{length, getD, List·getD-eq-default}
+use Rattle.blake.specs.Build.{build, build-length, build-at}
+use Rattle.blake.specs.Blake.{starting, rootNode, compressed, halved, wordsOf, byteOf, bytesOf, chained, chunked, treeOf, digested, plainHash}
+
+pub compressed-length : (cv m : List ℕ) (n len flags : ℕ) → length (compressed cv m n len flags) ≡ 8
+unfolding compressed halved
+compressed-length cv m n len flags = build-length 8 _
+
+pub chained-length : (key : List ℕ) (flag n : ℕ) (bs : List ℕ) (i : ℕ) → length key ≡ 8 → length (chained key flag n bs i) ≡ 8
+unfolding chained
+chained-length key flag n bs zero e = e
+chained-length key flag n bs (suc i) e = compressed-length _ _ _ _ _
+
+pub chunked-length : (key : List ℕ) (flag root n : ℕ) (bs : List ℕ) → length (chunked key flag root n bs) ≡ 8
+unfolding chunked
+chunked-length key flag root n bs = compressed-length _ _ _ _ _
+
+pub words-length : (k : ℕ) (bs : List ℕ) → length (wordsOf k bs) ≡ k
+unfolding wordsOf
+words-length k bs = build-length k _
+
+byte-small : (ws : List ℕ) (k : ℕ) → byteOf ws k < 256
+unfolding byteOf
+byte-small ws k = mod-lt (getD ws (k / 4) 0 / 2 ^ (8 * (k % 4))) (lit< tt)
+
+bytes-small : (ws : List ℕ) (k : ℕ) → getD (bytesOf ws) k 0 < 256
+unfolding bytesOf
+bytes-small ws k =
+    by-cases (decLt k 32)
+    (λ l. subst⁻¹ (λ (x : ℕ). x < 256) (build-at 32 (byteOf ws) k l) (byte-small ws k))
+    (λ l. subst⁻¹ (λ (x : ℕ). x < 256) (List·getD-eq-default (build 32 (byteOf ws)) 0 {n = k} (omega (arith, build-length 32 (byteOf ws)))) (lit< tt))
+
+pub digested-length : (key : List ℕ) (flag : ℕ) (bs : List ℕ) → length (digested key flag bs) ≡ 32
+unfolding digested bytesOf
+digested-length key flag bs = build-length 32 _
+
+pub digested-byte : (key : List ℕ) (flag : ℕ) (bs : List ℕ) (k : ℕ) → getD (digested key flag bs) k 0 < 256
+unfolding digested
+digested-byte key flag bs k = bytes-small (treeOf key flag rootNode 0 bs) k
+
+pub plain-length : (bs : List ℕ) → length (plainHash bs) ≡ 32
+unfolding plainHash
+plain-length bs = digested-length starting 0 bs
+
+pub plain-byte : (bs : List ℕ) (k : ℕ) → getD (plainHash bs) k 0 < 256
+unfolding plainHash
+plain-byte bs k = digested-byte starting 0 bs k

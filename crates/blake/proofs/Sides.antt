@@ -1,0 +1,72 @@
+-- The tree over chunks: what a height adds, and that any height that holds the bytes gives the same tree.
+use mathlib.Core.Path.{_≡_, refl, sym, ap, _∙_, subst}
+use mathlib.Core.List.{List}
+use mathlib.Core.Bool.{Bool}
+use Prim.Native.Nat.{ℕ, zero, suc, _+_, _-_, _*_, _^_, _≤_, _<_, zero-le}
+use native.Mathlib.Nat.{pow-suc, add-comm, le-trans, mul-le-mul-left}
+use native.Mathlib.Numerals.{sub-one}
+use native.Mathlib.Omega.{arith}
+use lib.ListN.{length, take, drop}
+use lib.Pow.{pow-pos, pow-mono}
+use lib.Dec.{leb}
+use borrow.Author.Tests.{le-leb, lt-leb}
+use Rattle.blake.specs.Blake.{pick, chunked, parented, treed, treeOf}
+
+pub lt-pow : (n : ℕ) → n < 2 ^ n
+lt-pow zero = omega arith
+lt-pow (suc n) = let p : n < 2 ^ n = lt-pow n in omega (arith, pow-suc 2 n)
+
+-- a height of 0 is one chunk
+pub tree-chunk : (h : ℕ) (key : List ℕ) (flag root n : ℕ) (bs : List ℕ) → h ≡ 0 → chunked key flag root n bs ≡ treed h key flag root n bs
+unfolding treed
+tree-chunk h key flag root n bs e =
+    let z : chunked key flag root n bs ≡ treed 0 key flag root n bs = refl in
+    z ∙ ap (λ (k : ℕ). treed k key flag root n bs) (sym e)
+
+module _ (key : List ℕ) (flag root n : ℕ) (bs : List ℕ) where
+  -- the parent of the first 2 ^ k chunks and the rest
+  abbrev pub sides : ℕ → List ℕ
+  sides k = parented key flag root (treed k key flag 0 n (take (1024 * 2 ^ k) bs)) (treed k key flag 0 (n + 2 ^ k) (drop (1024 * 2 ^ k) bs))
+
+  tree-step : (k : ℕ) → treed (suc k) key flag root n bs ≡ pick (leb (length bs) (1024 * 2 ^ k)) (treed k key flag root n bs) (sides k)
+  unfolding treed
+  tree-step k = refl
+
+  -- what fits under the left side alone is that side
+  short-suc : (k : ℕ) → length bs ≤ 1024 * 2 ^ k → treed k key flag root n bs ≡ treed (suc k) key flag root n bs
+  short-suc k l = sym (tree-step k ∙ ap (λ (b : Bool). pick b (treed k key flag root n bs) (sides k)) (le-leb _ _ l))
+
+  pub tree-short : (h : ℕ) → (h ≡ 0 → ⊥) → length bs ≤ 1024 * 2 ^ (h - 1) → treed (h - 1) key flag root n bs ≡ treed h key flag root n bs
+  tree-short zero ne l = absurd (ne refl)
+  tree-short (suc k) ne l =
+      ap (λ (j : ℕ). treed j key flag root n bs) (sub-one (suc k))
+      ∙ short-suc k (subst (λ (j : ℕ). length bs ≤ 1024 * 2 ^ j) (sub-one (suc k)) l)
+
+  -- what does not is a parent
+  long-suc : (k : ℕ) → 1024 * 2 ^ k < length bs → sides k ≡ treed (suc k) key flag root n bs
+  long-suc k l = sym (tree-step k ∙ ap (λ (b : Bool). pick b (treed k key flag root n bs) (sides k)) (lt-leb _ _ l))
+
+  pub tree-long : (h : ℕ) → (h ≡ 0 → ⊥) → 1024 * 2 ^ (h - 1) < length bs → sides (h - 1) ≡ treed h key flag root n bs
+  tree-long zero ne l = absurd (ne refl)
+  tree-long (suc k) ne l =
+      ap sides (sub-one (suc k)) ∙ long-suc k (subst (λ (j : ℕ). 1024 * 2 ^ j < length bs) (sub-one (suc k)) l)
+
+  -- a height more changes nothing where the bytes fit
+  tree-more : (h j : ℕ) → length bs ≤ 1024 * 2 ^ h → treed h key flag root n bs ≡ treed (j + h) key flag root n bs
+  tree-more h zero l = ap (λ (k : ℕ). treed k key flag root n bs) (let e : h ≡ 0 + h = omega arith in e)
+  tree-more h (suc j) l =
+      tree-more h j l
+      ∙ short-suc (j + h) (le-trans l (mul-le-mul-left 1024 (pow-mono {i = h} (let e : h ≤ j + h = omega arith in e))))
+      ∙ ap (λ (k : ℕ). treed k key flag root n bs) (let e : suc (j + h) ≡ suc j + h = omega arith in e)
+
+  -- any height that holds the bytes gives their tree
+  pub tree-enough : (h : ℕ) → length bs ≤ 1024 * 2 ^ h → treed h key flag root n bs ≡ treeOf key flag root n bs
+  unfolding treeOf
+  tree-enough h l =
+      tree-more h (length bs) l
+      ∙ ap (λ (k : ℕ). treed k key flag root n bs) (add-comm (length bs) h)
+      ∙ sym (tree-more (length bs) h (let p : length bs < 2 ^ length bs = lt-pow (length bs) in omega arith))
+
+  -- more than 2 ^ k chunks and at most 2 ^ (k + 1) are split after the first 2 ^ k
+  pub tree-split : (k : ℕ) → 1024 * 2 ^ k < length bs → length bs ≤ 1024 * 2 ^ suc k → treeOf key flag root n bs ≡ sides k
+  tree-split k more most = sym (tree-enough (suc k) most) ∙ sym (long-suc k more)

@@ -1,0 +1,45 @@
+-- Four mixes of sixteen words, put together again: `Quarters` has them written out.
+use Rattle.blake.proofs.Quarters.{columned-from}
+use borrow.Author.Needs.{needs}
+use Rattle.blake.proofs.compress.columns.Statement.{statement}
+use Rattle.blake.proofs.compress.columns.Tie as tie
+
+returns : tie.Need-returns
+returns c =
+    let at = c .before .before .before .before in
+    columned-from (at .args .t1) (at .args .t2) (at .good .0 .1 .0 .1)
+    (c .before .before .before .mix .ensures) (c .before .before .mix2 .ensures) (c .before .mix3 .ensures) (c .mix4 .ensures)
+
+pub columns-spec : {M : Type 1} → statement M
+columns-spec =
+    tie.close
+    (tie.spec
+    (λ c. search needs)
+    (λ c. search needs)
+    (λ c. search needs)
+    (λ c. search needs)
+    (λ c. search needs)
+    (λ c. search needs)
+    (λ c κs. search needs)
+    (λ c. search needs)
+    (λ c. search needs)
+    (λ c. search needs)
+    (λ c. search needs)
+    (λ c. search needs)
+    (λ c. search needs)
+    (λ c κs. search needs)
+    (λ c. search needs)
+    (λ c. search needs)
+    (λ c. search needs)
+    (λ c. search needs)
+    (λ c. search needs)
+    (λ c. search needs)
+    (λ c κs. search needs)
+    (λ c. search needs)
+    (λ c. search needs)
+    (λ c. search needs)
+    (λ c. search needs)
+    (λ c. search needs)
+    (λ c. search needs)
+    (λ c κs. search needs)
+    returns)

@@ -1,0 +1,23 @@
+-- Four lists of eight words in one, for the code that works four chunks side by side: word i of lane k is at 8 * k + i.
+use mathlib.Core.List.{List}
+use Prim.Native.Nat.{ℕ, _+_, _*_, _/_, _%_}
+use lib.ListN.{getD, take, drop}
+use Rattle.blake.specs.Build.{build}
+use Rattle.blake.specs.Blake.{compressed, wordsOf}
+
+-- lane k
+unfoldable pub laneOf : List ℕ → ℕ → List ℕ
+laneOf v k = build 8 (λ i. getD v (8 * k + i) 0)
+
+-- the four lanes f 0 to f 3 in one
+unfoldable pub laned : (ℕ → List ℕ) → List ℕ
+laned f = build 32 (λ p. getD (f (p / 8)) (p % 8) 0)
+
+-- chunk k of the input
+abbrev pub part : List ℕ → ℕ → List ℕ
+part bs k = take 1024 (drop (1024 * k) bs)
+
+-- lane k goes on by the block at place `at` of chunk k, whose number is n + k
+unfoldable pub compressed4 : List ℕ → List ℕ → ℕ → ℕ → ℕ → List ℕ
+compressed4 cv bs at n flags =
+    laned (λ k. compressed (laneOf cv k) (wordsOf 16 (take 64 (drop (1024 * k + at) bs))) (n + k) 64 flags)

@@ -1,0 +1,2 @@
+-- The promise of the digest.
+pub mod Digest
