@@ -6,8 +6,8 @@ use native.Mathlib.Omega.{arith}
 use lib.ListN.{length, getD, take, List·getD-append}
 use lib.Seq.{getD-append-add, take-all}
 use Rattle.blake.specs.Blake.{starting, begun, wordAt, wordsOf}
-use Rattle.blake.specs.Build.{build, buildFrom, build-same}
-use Rattle.blake.proofs.Fill.{build-self}
+use Rattle.blake.specs.Build.{build, buildFrom}
+use Rattle.blake.proofs.Builds.{build-same, build-self}
 
 -- words are what the bytes say, those past the end being 0
 pub words-same : (k : ℕ) (a b : List ℕ) → ((i : ℕ) → getD a i 0 ≡ getD b i 0) → wordsOf k a ≡ wordsOf k b

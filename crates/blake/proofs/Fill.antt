@@ -1,15 +1,16 @@
 -- A loop that stores f 0, f 1, .. from the front makes the list that f builds.
-use mathlib.Core.Path.{_≡_, refl, sym, ap, _∙_, subst}
+use mathlib.Core.Path.{_≡_, refl, sym, _∙_}
 use mathlib.Core.Logic.{by-cases}
 use native.Mathlib.Decide.{decLt}
 use borrow.Author.Count.{below-more}
-use mathlib.Core.List.{List, [], _∷_}
+use mathlib.Core.List.{List}
 use Prim.Native.Nat.{ℕ, zero, suc, _+_, _≤_, _<_, zero-le}
-use native.Mathlib.Nat.{le-of-suc-le-suc, not-suc-le-zero, add-zero, add-suc, suc-add, zero-add}
+use native.Mathlib.Nat.{not-suc-le-zero}
 use native.Mathlib.Omega.{arith}
 use lib.ListN.{length, getD, set, replicate, length-set, length-replicate, List·getD-eq-default}
 use lib.Seq.{ext-getD, getD-set-same, getD-set-other}
-use Rattle.blake.specs.Build.{build, build-length, build-at}
+use Rattle.blake.specs.Build.{build}
+use Rattle.blake.proofs.Builds.{build-length, build-at}
 
 -- out has n places, and f k stands at each k below i
 pub record Fills (f : ℕ → ℕ) (n : ℕ) (out : List ℕ) (i : ℕ) : Type 0 where
@@ -77,7 +78,3 @@ pub pads-all : {bs : List ℕ} {n : ℕ} {out : List ℕ} {i : ℕ} → length b
 pads-all {bs} {n} {out} {i} h g k =
     by-cases (decLt k i) (λ l. g .front k l)
     (λ l. g .rest k (omega arith) ∙ sym (List·getD-eq-default bs 0 {n = k} (omega arith)))
-
--- a list is what its own elements build
-pub build-self : (n : ℕ) (l : List ℕ) → length l ≡ n → l ≡ build n (λ k. getD l k 0)
-build-self n l e = fills-all {i = n} (omega arith) (record { size = e; within = omega arith; done = λ k h. refl })

@@ -8,8 +8,9 @@ use native.Mathlib.Decide.{decLt}
 use native.Mathlib.Omega.{arith}
 use lib.Dec.{lit<}
 use lib.ListN.{length, getD, List·getD-eq-default}
-use Rattle.blake.specs.Build.{build, build-length, build-at}
-use Rattle.blake.specs.Blake.{starting, rootNode, compressed, halved, wordsOf, byteOf, bytesOf, chained, chunked, treeOf, digested, plainHash}
+use Rattle.blake.specs.Build.{build}
+use Rattle.blake.proofs.Builds.{build-length, build-at}
+use Rattle.blake.specs.Blake.{starting, rootNode, compressed, halved, byteOf, bytesOf, chained, chunked, treeOf, digested, plainHash}
 
 pub compressed-length : (cv m : List ℕ) (n len flags : ℕ) → length (compressed cv m n len flags) ≡ 8
 unfolding compressed halved
@@ -23,10 +24,6 @@ chained-length key flag n bs (suc i) e = compressed-length _ _ _ _ _
 pub chunked-length : (key : List ℕ) (flag root n : ℕ) (bs : List ℕ) → length (chunked key flag root n bs) ≡ 8
 unfolding chunked
 chunked-length key flag root n bs = compressed-length _ _ _ _ _
-
-pub words-length : (k : ℕ) (bs : List ℕ) → length (wordsOf k bs) ≡ k
-unfolding wordsOf
-words-length k bs = build-length k _
 
 byte-small : (ws : List ℕ) (k : ℕ) → byteOf ws k < 256
 unfolding byteOf

@@ -4,7 +4,7 @@ use mathlib.Core.List.{List}
 use Prim.Native.Nat.{ℕ, _<_}
 use lib.ListN.{getD}
 use lib.Dec.{ltb, ltb→lt}
-use Rattle.blake.specs.Build.{build-at}
+use Rattle.blake.proofs.Builds.{build-at}
 use Rattle.blake.specs.Blake.{order, permuted}
 use Rattle.blake.proofs.Table.{at}
 

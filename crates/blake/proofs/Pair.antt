@@ -1,11 +1,10 @@
 -- Two digests: their 64 bytes are sixteen words, and one compression with chunk start, chunk end and root is their digest.
-use mathlib.Core.Path.{_≡_, refl, sym, ap, ap₂, _∙_}
+use mathlib.Core.Path.{_≡_, refl, ap, ap₂, _∙_}
 use mathlib.Core.List.{List, _++_}
-use Prim.Native.Nat.{ℕ, _+_, _-_, _*_, _/_, _<_}
+use Prim.Native.Nat.{ℕ, _+_, _-_, _*_, _/_}
 use native.Mathlib.Omega.{arith}
-use lib.ListN.{length, getD, drop, length-append}
-use Rattle.blake.specs.Build.{build, build-length, build-at}
-use Rattle.blake.specs.Blake.{compressed, wordAt, wordsOf, startFlag, chained, before, chunked, bytesOf, digested}
+use lib.ListN.{length, drop, length-append}
+use Rattle.blake.specs.Blake.{compressed, wordsOf, startFlag, chained, before, chunked, bytesOf, digested}
 use Rattle.blake.proofs.Blocks.{words-joined}
 use Rattle.blake.proofs.Sides.{tree-chunk, tree-enough}
 

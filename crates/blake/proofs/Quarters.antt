@@ -1,11 +1,11 @@
 -- The columns and the diagonals of sixteen words, written out.
-use mathlib.Core.Path.{_≡_, refl, sym, ap, _∙_}
+use mathlib.Core.Path.{_≡_, ap}
 use mathlib.Core.List.{List, [], _∷_}
 use Prim.Native.Nat.{ℕ}
-use lib.ListN.{length, getD, set}
+use lib.ListN.{length, getD}
 use Rattle.blake.specs.Blake.{mixed, mixedAt, columned, diagonaled}
 use Rattle.blake.specs.Build.{build, buildFrom}
-use Rattle.blake.proofs.Fill.{build-self}
+use Rattle.blake.proofs.Builds.{build-self}
 
 -- the words a, b, c, d of s, mixed with the words i and j of m
 abbrev pub at : List ℕ → List ℕ → ℕ → ℕ → ℕ → ℕ → ℕ → ℕ → List ℕ

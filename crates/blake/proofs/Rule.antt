@@ -1,8 +1,8 @@
 -- The tree keeps the specification's rule.
-use mathlib.Core.Path.{_≡_, refl, sym, ap, ap₂, _∙_, subst}
+use mathlib.Core.Path.{_≡_, refl, sym, ap, ap₂, _∙_}
 use mathlib.Core.List.{List}
 use mathlib.Core.Logic.{by-cases}
-use Prim.Native.Nat.{ℕ, suc, _+_, _-_, _*_, _/_, _^_, _≤_, _<_}
+use Prim.Native.Nat.{ℕ, suc, _+_, _-_, _*_, _^_, _≤_, _<_}
 use native.Mathlib.Nat.{pow-suc}
 use native.Mathlib.Decide.{decLt}
 use native.Mathlib.Omega.{arith}
@@ -10,7 +10,7 @@ use lib.ListN.{length, take, drop, length-drop}
 use lib.Seq.{length-take-le}
 use lib.Count.{leading-top}
 use lib.Pow.{pow-pos, pow-mono}
-use Rattle.blake.specs.Blake.{chunked, parented, treeOf}
+use Rattle.blake.specs.Blake.{parented, treeOf}
 use Rattle.blake.specs.Rule.{chunks, LargestPowerBelow, TreeRule}
 use Rattle.blake.proofs.Sides.{lt-pow, tree-chunk, tree-enough, tree-split}
 

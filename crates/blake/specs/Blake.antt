@@ -9,16 +9,16 @@ use Rattle.blake.specs.Build.{build}
 
 -- ---- Constants
 
--- the starting words
+-- the starting words (IV)
 abbrev pub starting : List ℕ
 starting =
     0x6A09E667 ∷ 0xBB67AE85 ∷ 0x3C6EF372 ∷ 0xA54FF53A ∷ 0x510E527F ∷ 0x9B05688C ∷ 0x1F83D9AB ∷ 0x5BE0CD19 ∷ []
 
--- P, the permutation of the message words
+-- P, the permutation of the message words (MSG_PERMUTATION)
 abbrev pub order : List ℕ
 order = 2 ∷ 6 ∷ 3 ∷ 10 ∷ 7 ∷ 0 ∷ 4 ∷ 13 ∷ 1 ∷ 11 ∷ 12 ∷ 5 ∷ 9 ∷ 14 ∷ 15 ∷ 8 ∷ []
 
--- the flags
+-- the flags CHUNK_START, CHUNK_END, PARENT and ROOT
 abbrev pub chunkStart : ℕ
 chunkStart = 1
 
@@ -37,7 +37,7 @@ rootNode = 8
 unfoldable pub turnRight : ℕ → ℕ → ℕ
 turnRight x k = x % 2 ^ k * 2 ^ (32 - k) + x / 2 ^ k
 
--- a, b, c, d mixed with x and y, every addition modulo 2 ^ 32
+-- a, b, c, d mixed with x and y, every addition modulo 2 ^ 32 (the function G)
 unfoldable pub mixed : ℕ → ℕ → ℕ → ℕ → ℕ → ℕ → List ℕ
 mixed a b c d x y =
     let a₁ = (a + b + x) % 2 ^ 32 in
@@ -116,7 +116,7 @@ byteOf ws i = getD ws (i / 4) 0 / 2 ^ (8 * (i % 4)) % 256
 unfoldable pub bytesOf : List ℕ → List ℕ
 bytesOf ws = build 32 (byteOf ws)
 
--- ---- Chunks. `key` is the words that chaining begins with, `flag` a flag on every compression: the mode
+-- ---- Chunks. `key` is the words that chaining begins with and `flag` a flag on every compression: together, the mode
 
 -- chunk start is set on the first block
 unfoldable pub startFlag : ℕ → ℕ

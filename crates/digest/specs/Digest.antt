@@ -3,7 +3,7 @@ use mathlib.Core.Path.{_≡_}
 use mathlib.Core.List.{List}
 use Prim.Native.Nat.{ℕ, _<_}
 use lib.ListN.{length, getD}
-use Rattle.blake.specs.Blake.{starting, plainHash}
+use Rattle.blake.specs.Blake.{plainHash}
 use Rattle.blake.proofs.Lengths.{plain-length, plain-byte}
 pub mod Inside
 

@@ -1,5 +1,4 @@
 -- The four bytes of a word: each is below 256, so no sum wraps.
-use native.Mathlib.Omega.{arith}
 use Rattle.blake.specs.Blake.{wordAt}
 use borrow.Author.Needs.{needs}
 use Rattle.blake.proofs.word.word.Statement.{statement}

@@ -1,0 +1,97 @@
+/* The program that bench/digest.sh counts: the digest of this project and BLAKE3's portable C by two compilers, the
+   same work on the same bytes, one call after the other, and their results compared.
+     digest count   each call once between two marks; standard output names the calls in their order
+     digest time    each call many times; standard output names the calls, each with its nanoseconds */
+#define _GNU_SOURCE
+#include <stdint.h>
+#include <stdio.h>
+#include <stdlib.h>
+#include <string.h>
+#include <time.h>
+
+/* ours, as libdigest_c.a exports them: a lent slice is a pointer and a length, 32 lent bytes are a pointer */
+void digest_c_of(const uint8_t *bytes, size_t length, uint8_t out[32]);
+void digest_c_pair(const uint8_t left[32], const uint8_t right[32], uint8_t out[32]);
+/* theirs, by two compilers (theirs.c) */
+void gcc_digest(const uint8_t *bytes, size_t length, uint8_t out[32]);
+void clang_digest(const uint8_t *bytes, size_t length, uint8_t out[32]);
+
+/* ---- the marks: a counting run adds up what lies between mark_begin and mark_end */
+#ifdef CALLGRIND
+#include <valgrind/callgrind.h>
+#define mark_begin() CALLGRIND_ZERO_STATS
+#define mark_end() CALLGRIND_DUMP_STATS
+#else
+__attribute__((noinline)) void mark_begin(void) { __asm__ volatile("" ::: "memory"); }
+__attribute__((noinline)) void mark_end(void) { __asm__ volatile("" ::: "memory"); }
+#endif
+
+static int timing;
+
+static double now(void) {
+    struct timespec t;
+    clock_gettime(CLOCK_MONOTONIC, &t);
+    return (double)t.tv_sec * 1e9 + (double)t.tv_nsec;
+}
+
+/* one call: counted once, after a first run that nothing counts; or timed, the best of many rounds */
+#define MEASURE(SIDE, NAME, CALL)                                              \
+    do {                                                                       \
+        CALL;                                                                  \
+        if (!timing) {                                                         \
+            mark_begin();                                                      \
+            CALL;                                                              \
+            mark_end();                                                        \
+            printf("%s\t%s\n", SIDE, NAME);                                    \
+            break;                                                             \
+        }                                                                      \
+        double best = 1e30;                                                    \
+        for (int round = 0; round < 20; round++) {                             \
+            double from = now();                                               \
+            for (int k = 0; k < 50; k++) CALL;                                 \
+            double each = (now() - from) / 50;                                 \
+            if (each < best) best = each;                                      \
+        }                                                                      \
+        printf("%s\t%s\t%.0f\n", SIDE, NAME, best);                            \
+    } while (0)
+
+#define LONGEST 100000
+static uint8_t input[LONGEST], ours[32], gcc[32], clang[32];
+
+static void compare(const char *name) {
+    if (memcmp(ours, gcc, 32) != 0 || memcmp(ours, clang, 32) != 0) {
+        fprintf(stderr, "bench: %s: the digests differ\n", name);
+        exit(1);
+    }
+    memset(ours, 0, 32);
+    memset(gcc, 1, 32);
+    memset(clang, 2, 32);
+}
+
+static void measure_digest(size_t length) {
+    char name[64];
+    snprintf(name, sizeof name, "digest of %zu bytes", length);
+    MEASURE("ours", name, digest_c_of(input, length, ours));
+    MEASURE("gcc", name, gcc_digest(input, length, gcc));
+    MEASURE("clang", name, clang_digest(input, length, clang));
+    compare(name);
+}
+
+/* theirs takes the two digests where they lie side by side already */
+static void measure_parent(void) {
+    const char *name = "one parent of 64 bytes";
+    MEASURE("ours", name, digest_c_pair(input, input + 32, ours));
+    MEASURE("gcc", name, gcc_digest(input, 64, gcc));
+    MEASURE("clang", name, clang_digest(input, 64, clang));
+    compare(name);
+}
+
+int main(int argc, char **argv) {
+    static const size_t lengths[] = {0, 64, 128, 200, 1024, 4096, 16384, 100000};
+    timing = argc > 1 && strcmp(argv[1], "time") == 0;
+    for (size_t i = 0; i < LONGEST; i++) input[i] = (uint8_t)(i % 251);
+    MEASURE("ours", "nothing", (void)0);
+    measure_parent();
+    for (size_t i = 0; i < sizeof lengths / sizeof *lengths; i++) measure_digest(lengths[i]);
+    return 0;
+}

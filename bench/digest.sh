@@ -1,0 +1,96 @@
+#!/bin/sh
+# bench/digest.sh: executed instructions of the digest beside BLAKE3's portable C, and the limits that they are held to.
+# The C is compiled by gcc and by the kit's own clang; a ratio is to the better of the two. The three run in one program
+# on the same bytes, and their digests are compared. On x86-64 valgrind counts, and the times are printed too; elsewhere
+# the kit's emulator runs one instruction at a time, and its trace is counted. What is missing is installed.
+# Exit status: 0 where every limit is met, 1 where one is missed or two digests differ, 2 where nothing could be measured.
+set -eu
+. "$(dirname "$0")/common.sh"
+here=$top/bench
+flags='-O3 -march=x86-64 -DBLAKE3_NO_SSE2 -DBLAKE3_NO_SSE41 -DBLAKE3_NO_AVX2 -DBLAKE3_NO_AVX512'
+
+find_sources() {
+    blake3=$(ls -d /usr/share/cargo/registry/blake3-*/c 2>/dev/null | tail -n 1)
+    [ -n "$blake3" ] || install librust-blake3-dev
+    blake3=$(ls -d /usr/share/cargo/registry/blake3-*/c | tail -n 1)
+    [ -f "$blake3/blake3_portable.c" ] || die "no BLAKE3 C code in librust-blake3-dev"
+    version=$(basename "$(dirname "$blake3")")
+}
+
+# The kit's clang has no headers of its own and is handed gcc's. Portable code calls no intrinsic: their header is empty,
+# for both compilers.
+find_compilers() {
+    need_command "${prefix}gcc" $compiler_packages
+    need_command "${prefix}objcopy" $binutils_package
+    gcc=${prefix}gcc
+    clang=$tools/clang
+    [ -x "$clang" ] || die "the kit has no clang for $machine"
+    mkdir "$work/include"
+    : >"$work/include/immintrin.h"
+    headers=$($gcc -E -v -x c /dev/null 2>&1 | sed -n '/^#include </,/^End of search/s,^ /,-isystem /,p' | tr '\n' ' ')
+}
+
+# theirs NAME COMPILER..: BLAKE3's C by one compiler, in one object whose only name is NAME_digest
+theirs() {
+    name=$1
+    shift
+    objects=
+    for source in "$blake3/blake3.c" "$blake3/blake3_dispatch.c" "$blake3/blake3_portable.c" "$here/theirs.c"; do
+        object=$work/$name-$(basename "$source" .c).o
+        # shellcheck disable=SC2086
+        "$@" $flags -DNAME="${name}_digest" -I"$work/include" -I"$blake3" -c "$source" -o "$object"
+        objects="$objects $object"
+    done
+    # shellcheck disable=SC2086
+    "${prefix}ld" -r -o "$work/$name-all.o" $objects
+    "${prefix}objcopy" --keep-global-symbol="${name}_digest" "$work/$name-all.o" "$work/$name.o"
+}
+
+# The calls in their order go to names, a line each, and what each took to counts.
+count_by_valgrind() {
+    "$work/digest" time >"$work/times"
+    valgrind --tool=callgrind --callgrind-out-file="$work/part" "$work/digest" count >"$work/names" 2>"$work/valgrind.log" ||
+        { cat "$work/valgrind.log" >&2; exit 1; }
+    k=0
+    while [ "$k" -lt "$(wc -l <"$work/names")" ]; do
+        k=$((k + 1))
+        sed -n 's/^totals: //p' "$work/part.$k"
+    done >"$work/counts"
+    how="counted by $(valgrind --version)"
+}
+
+# The same by the kit's emulator: what lies between the first instruction of mark_begin and that of mark_end.
+count_by_emulator() {
+    [ -x "$tools/qemu-x86_64" ] || die "the kit has no emulator for $machine"
+    : >"$work/times"
+    {
+        status=0
+        "$tools/qemu-x86_64" -one-insn-per-tb -d nochain,exec "$work/digest" count 2>&1 >"$work/names" || status=$?
+        echo "$status" >"$work/status"
+    } | LC_ALL=C awk '
+        $1 != "Trace" { print >"/dev/stderr"; next }
+        $NF == "mark_begin" { if (last != $NF) n = 0 }
+        $NF == "mark_end" { if (last != $NF) print n }
+        { n++; last = $NF }' >"$work/counts"
+    [ "$(cat "$work/status")" = 0 ] || exit 1
+    how="counted by the kit's emulator"
+}
+
+find_sources
+find_compilers
+static_library
+theirs gcc "$gcc"
+# shellcheck disable=SC2086
+theirs clang "$clang" --target=x86_64-linux-gnu -nostdinc $headers
+marks=
+if [ "$machine" = x86_64 ]; then
+    need_command valgrind valgrind
+    marks=-DCALLGRIND
+fi
+"$gcc" -O2 -static $marks "$here/digest.c" "$work/gcc.o" "$work/clang.o" "$archive" -o "$work/digest"
+if [ "$machine" = x86_64 ]; then count_by_valgrind; else count_by_emulator; fi
+echo "Executed instructions, $how, and nanoseconds where they are measured."
+echo "C: $version, portable, -O3 -march=x86-64."
+echo "gcc: $($gcc --version | head -n 1)"
+echo "clang: $($clang --version | head -n 1), the kit's"
+paste "$work/names" "$work/counts" | awk -F '\t' -f "$here/table.awk" "$work/times" -

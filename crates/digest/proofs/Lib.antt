@@ -1,0 +1,2 @@
+-- What follows from the promise.
+pub mod Only
