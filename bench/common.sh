@@ -5,7 +5,8 @@ say() { echo "bench: $*" >&2; }
 die() { say "$*"; exit 2; }
 
 top=$(cd "$(dirname "$0")/.." && pwd -P)
-kit=$(dirname "$(dirname "$(rt doc)")") || die "no Rattle kit: rt is not there"
+guide=$(rt doc) || die "no rt: Rattle's kit is not installed"
+kit=$(dirname "$(dirname "$guide")")
 machine=$(uname -m)
 tools=$kit/on/$machine/toolchain/bin
 work=$(mktemp -d) || die "no temporary folder"
@@ -22,8 +23,8 @@ else
     binutils_package=binutils-x86-64-linux-gnu
 fi
 
-# install PACKAGE..: by Debian's names
-install() {
+# install_packages PACKAGE..: by Debian's names
+install_packages() {
     say "installing $*"
     as_root=
     [ "$(id -u)" = 0 ] || as_root=sudo
@@ -40,7 +41,7 @@ install() {
 need_command() {
     command=$1
     shift
-    command -v "$command" >/dev/null 2>&1 || install "$@"
+    command -v "$command" >/dev/null 2>&1 || install_packages "$@"
     command -v "$command" >/dev/null 2>&1 || die "no $command, with $* installed"
 }
 

@@ -5,24 +5,31 @@
 # the kit's emulator runs one instruction at a time, and its trace is counted. What is missing is installed.
 # Exit status: 0 where every limit is met, 1 where one is missed or two digests differ, 2 where nothing could be measured.
 set -eu
+# shellcheck source=bench/common.sh
 . "$(dirname "$0")/common.sh"
 here=$top/bench
 flags='-O3 -march=x86-64 -DBLAKE3_NO_SSE2 -DBLAKE3_NO_SSE41 -DBLAKE3_NO_AVX2 -DBLAKE3_NO_AVX512'
 
+sources_found() {
+    for blake3 in /usr/share/cargo/registry/blake3-*/c; do :; done
+    [ -f "$blake3/blake3_portable.c" ]
+}
+
 find_sources() {
-    blake3=$(ls -d /usr/share/cargo/registry/blake3-*/c 2>/dev/null | tail -n 1)
-    [ -n "$blake3" ] || install librust-blake3-dev
-    blake3=$(ls -d /usr/share/cargo/registry/blake3-*/c | tail -n 1)
-    [ -f "$blake3/blake3_portable.c" ] || die "no BLAKE3 C code in librust-blake3-dev"
+    sources_found || install_packages librust-blake3-dev
+    sources_found || die "no BLAKE3 C code in librust-blake3-dev"
     version=$(basename "$(dirname "$blake3")")
 }
 
 # The kit's clang has no headers of its own and is handed gcc's. Portable code calls no intrinsic: their header is empty,
 # for both compilers.
 find_compilers() {
+    # shellcheck disable=SC2086
     need_command "${prefix}gcc" $compiler_packages
-    need_command "${prefix}objcopy" $binutils_package
+    need_command "${prefix}objcopy" "$binutils_package"
     gcc=${prefix}gcc
+    # shellcheck disable=SC2086
+    [ -f "$($gcc -print-file-name=libc.a)" ] || install_packages $compiler_packages
     clang=$tools/clang
     [ -x "$clang" ] || die "the kit has no clang for $machine"
     mkdir "$work/include"
@@ -87,10 +94,12 @@ if [ "$machine" = x86_64 ]; then
     need_command valgrind valgrind
     marks=-DCALLGRIND
 fi
-"$gcc" -O2 -static $marks "$here/digest.c" "$work/gcc.o" "$work/clang.o" "$archive" -o "$work/digest"
+# shellcheck disable=SC2086
+"$gcc" -O2 -static $marks -I"$top/crates/digest_c" "$here/digest.c" "$work/gcc.o" "$work/clang.o" "$archive" -o "$work/digest"
 if [ "$machine" = x86_64 ]; then count_by_valgrind; else count_by_emulator; fi
 echo "Executed instructions, $how, and nanoseconds where they are measured."
 echo "C: $version, portable, -O3 -march=x86-64."
 echo "gcc: $($gcc --version | head -n 1)"
 echo "clang: $($clang --version | head -n 1), the kit's"
-paste "$work/names" "$work/counts" | awk -F '\t' -f "$here/table.awk" "$work/times" -
+paste "$work/names" "$work/counts" >"$work/measured"
+awk -F '\t' -f "$here/table.awk" "$work/times" "$work/measured"

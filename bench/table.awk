@@ -28,7 +28,7 @@ function limit(row, most,    ratio) {
     if (ratio > most) missed = 1
 }
 
-FILENAME != "-" { time[$1, $2] = $3; timed = 1; next }
+FILENAME == ARGV[1] { time[$1, $2] = $3; timed = 1; next }
 $2 == "nothing" { nothing = $3; next }
 { count[$1, $2] = $3 - nothing }
 !($2 in seen) && $2 != "digest of 128 bytes" { seen[$2] = 1; rows[++n] = $2 }

@@ -47,14 +47,15 @@ fn mix(a: u32, b: u32, c: u32, d: u32, x: u32, y: u32) -> Four
     }
 }
 
-// The columns of s, mixed with the first eight words of m.
+// The columns of s, mixed with the first eight words of m. The four mixes may come in any order: this one, and that of the
+// diagonals, leave the compiler the fewest moves (docs/BENCH.md).
 fn columns(s: [u32; 16], m: [u32; 16]) -> [u32; 16]
     ensures { λ r. ⌜ r ≡ columned s m ⌝ }
 {
-    let p = mix(s[0], s[4], s[8], s[12], m[0], m[1]);
-    let q = mix(s[1], s[5], s[9], s[13], m[2], m[3]);
-    let t = mix(s[2], s[6], s[10], s[14], m[4], m[5]);
     let u = mix(s[3], s[7], s[11], s[15], m[6], m[7]);
+    let p = mix(s[0], s[4], s[8], s[12], m[0], m[1]);
+    let t = mix(s[2], s[6], s[10], s[14], m[4], m[5]);
+    let q = mix(s[1], s[5], s[9], s[13], m[2], m[3]);
     [
         p.a,
         q.a,
@@ -79,10 +80,10 @@ fn columns(s: [u32; 16], m: [u32; 16]) -> [u32; 16]
 fn diagonals(s: [u32; 16], m: [u32; 16]) -> [u32; 16]
     ensures { λ r. ⌜ r ≡ diagonaled s m ⌝ }
 {
-    let p = mix(s[0], s[5], s[10], s[15], m[8], m[9]);
-    let q = mix(s[1], s[6], s[11], s[12], m[10], m[11]);
     let t = mix(s[2], s[7], s[8], s[13], m[12], m[13]);
     let u = mix(s[3], s[4], s[9], s[14], m[14], m[15]);
+    let p = mix(s[0], s[5], s[10], s[15], m[8], m[9]);
+    let q = mix(s[1], s[6], s[11], s[12], m[10], m[11]);
     [
         p.a,
         q.a,

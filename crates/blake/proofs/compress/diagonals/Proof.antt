@@ -8,7 +8,7 @@ returns : tie.Need-returns
 returns c =
     let at = c .before .before .before .before in
     diagonaled-from (at .args .t1) (at .args .t2) (at .good .0 .1 .0 .1)
-    (c .before .before .before .mix .ensures) (c .before .before .mix2 .ensures) (c .before .mix3 .ensures) (c .mix4 .ensures)
+    (c .before .mix3 .ensures) (c .mix4 .ensures) (c .before .before .before .mix .ensures) (c .before .before .mix2 .ensures)
 
 pub diagonals-spec : {M : Type 1} → statement M
 diagonals-spec =

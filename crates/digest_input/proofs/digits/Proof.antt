@@ -1,0 +1,12 @@
+-- `digest_input::digits` meets its contract: the digits are those of the digest.
+use mathlib.Core.Path.{ap, _∙_}
+use borrow.Author.Needs.{needs}
+use Rattle.hex.specs.Hex.{hexOf}
+use Rattle.digest_input.proofs.digits.Statement.{statement}
+use Rattle.digest_input.proofs.digits.Tie as tie
+
+returns : tie.Need-returns
+returns c = c .digits-of .ensures ∙ ap hexOf (c .before .before .digest-of .ensures)
+
+pub digits-spec : {M : Type 1} → statement M
+digits-spec = tie.close (tie.spec (λ c κs. search needs) (λ c κs. search needs) returns)
