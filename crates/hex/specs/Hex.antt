@@ -1,11 +1,8 @@
 -- Bytes in lowercase hexadecimal, as ASCII.
-use mathlib.Core.Path.{_≡_, refl}
 use mathlib.Core.Bool.{cond}
 use mathlib.Core.List.{List, [], _∷_}
-use Prim.Native.Nat.{ℕ, _+_, _-_, _*_, _/_, _%_}
-use native.Mathlib.Omega.{arith}
+use Prim.Native.Nat.{ℕ, _+_, _-_, _/_, _%_}
 use lib.Dec.{ltb}
-use lib.ListN.{length}
 
 -- the digit of n below 16: '0' is 48 and 'a' is 97
 unfoldable pub digitOf : ℕ → ℕ
@@ -15,9 +12,3 @@ digitOf n = cond (ltb n 10) (48 + n) (97 + (n - 10))
 unfoldable pub hexOf : List ℕ → List ℕ
 hexOf [] = []
 hexOf (b ∷ bs) = digitOf (b / 16) ∷ digitOf (b % 16) ∷ hexOf bs
-
--- n bytes have 2n digits
-pub hex-length : (bs : List ℕ) → length (hexOf bs) ≡ 2 * length bs
-unfolding hexOf
-hex-length [] = refl
-hex-length (b ∷ bs) = let e = hex-length bs in omega arith
