@@ -1,0 +1,166 @@
+-- Laws of the refusal order: how an answer is reached, what an answer tells, an order in two parts, one outcome.
+use mathlib.Core.Logic.{_≢_}
+use mathlib.Core.Path.{_≡_, refl, sym, ap, ap₂, _∙_}
+use mathlib.Core.Bool.{Bool, true, false, _&&_, true≢false}
+use mathlib.Core.List.{List, [], _∷_, _++_}
+use Prim.Native.Nat.{ℕ}
+use native.Mathlib.Omega.{arith}
+use borrow.Author.Tests.{ltb-true, eqb-true}
+use lib.Dec.{T, ltb, eqb}
+use Rattle.order.specs.Order.{Test, applies, Refusal, _if_, verdict, first}
+use Rattle.order.proofs.Tests.{Fails, false-of, fails-of, by-test}
+
+-- no refusal of an order applies
+abbrev pub Passes : List Refusal → Type 0
+Passes [] = Unit
+Passes (m if t ∷ later) = Fails t × Passes later
+
+abbrev pub Step : Bool → Test → Type 0 → Type 0
+Step true t Later = Fails t → Later
+Step false t Later = Fails t × Later
+
+-- the first refusal that applies has the number n: one with another number fails, and one with n applies or leaves it to a later one
+abbrev pub Refuses : ℕ → List Refusal → Type 0
+Refuses n [] = ⊥
+Refuses n (m if t ∷ later) = Step (eqb n m) t (Refuses n later)
+
+-- every number of an order is above 0: `tt`, where the order is written out
+abbrev pub numbered : List Refusal → Bool
+numbered [] = true
+numbered (m if t ∷ later) = ltb 0 m && numbered later
+
+-- ---- one refusal, and then the whole order
+
+module _ (t : Test) (Later : Type 0) where
+  hit : (n m : ℕ) (b : Bool) → eqb n m ≡ b → Step b t Later → applies t ≡ true → m ≡ n
+  hit n m true f h e = sym (eqb-true n m f)
+  hit n m false f h e = absurd (true≢false (sym e ∙ false-of t (h .0)))
+
+  miss : (b : Bool) → Step b t Later → applies t ≡ false → Later
+  miss true h e = h (fails-of t e)
+  miss false h e = h .1
+
+module _ {X : Type 0} (refused : ℕ → X) (done : X) where
+  module _ (m : ℕ) (t : Test) (later : List Refusal) where
+    stop : applies t ≡ true → verdict refused (m if t ∷ later) done ≡ refused m
+    unfolding verdict
+    stop e = rw (e, verdict)
+
+    next : applies t ≡ false → verdict refused (m if t ∷ later) done ≡ verdict refused later done
+    unfolding verdict
+    next e = rw (e, verdict)
+
+  reach : (n : ℕ) (order : List Refusal) → Refuses n order → verdict refused order done ≡ refused n
+  reach n [] h = absurd h
+  reach n (m if t ∷ later) h =
+      by-test t (λ e. stop m t later e ∙ ap refused (hit t _ n m (eqb n m) refl h e))
+      (λ e. next m t later e ∙ reach n later (miss t _ (eqb n m) h e))
+
+  pass : (order : List Refusal) → Passes order → verdict refused order done ≡ done
+  unfolding verdict
+  pass [] h = refl
+  pass (m if t ∷ later) h = next m t later (false-of t (h .0)) ∙ pass later (h .1)
+
+-- ---- how an answer is reached
+
+-- at a return with the refusal n
+pub refuses : {X : Type 0} (n : ℕ) (refused : ℕ → X) (order : List Refusal) (done : X) {r : X}
+    → r ≡ refused n → Refuses n order → r ≡ verdict refused order done
+refuses n refused order done e h = e ∙ sym (reach refused done n order h)
+
+-- at the return that is done
+pub passes : {X : Type 0} (refused : ℕ → X) (order : List Refusal) (done : X) {r : X}
+    → r ≡ done → Passes order → r ≡ verdict refused order done
+passes refused order done e h = e ∙ sym (pass refused done order h)
+
+-- the number alone
+pub first-is : (n : ℕ) (order : List Refusal) → Refuses n order → n ≡ first order
+unfolding first
+first-is n order h = sym (reach (λ m. m) 0 n order h)
+
+pub first-none : (order : List Refusal) → Passes order → 0 ≡ first order
+unfolding first
+first-none order h = sym (pass (λ m. m) 0 order h)
+
+-- ---- what an answer tells
+
+-- the number 0 is that of no refusal
+pub clear : (order : List Refusal) → T (numbered order) → first order ≡ 0 → Passes order
+unfolding first
+clear [] h z = tt
+clear (m if t ∷ later) h z =
+    let a = both (ltb 0 m) (numbered later) h in
+    by-test t (λ e. absurd (omega (arith, ltb-true 0 m (a .0), sym (stop (λ k. k) 0 m t later e) ∙ z)))
+    (λ e. (fails-of t e, clear later (a .1) (sym (next (λ k. k) 0 m t later e) ∙ z)))
+  where
+    both : (p q : Bool) → T (p && q) → (p ≡ true) × T q
+    both true q h = (refl, h)
+
+module _ {X : Type 0} (refused : ℕ → X) (done : X) where
+  -- the answer by its number
+  pub refused-by : (order : List Refusal) → first order ≢ 0 → verdict refused order done ≡ refused (first order)
+  unfolding first verdict
+  refused-by [] h = absurd (h refl)
+  refused-by (m if t ∷ later) h =
+      by-test t (λ e. stop refused done m t later e ∙ ap refused (sym (stop (λ k. k) 0 m t later e)))
+      (λ e.
+      let n = next (λ k. k) 0 m t later e in
+      next refused done m t later e ∙ refused-by later (λ z. h (n ∙ z)) ∙ ap refused (sym n))
+
+  pub done-by : (order : List Refusal) → T (numbered order) → first order ≡ 0 → verdict refused order done ≡ done
+  done-by order h z = pass refused done order (clear order h z)
+
+-- what is read off an answer
+pub verdict-map : {X Y : Type 0} (f : X → Y) (refused : ℕ → X) (order : List Refusal) (done : X)
+    → f (verdict refused order done) ≡ verdict (λ n. f (refused n)) order (f done)
+unfolding verdict
+verdict-map f refused [] done = refl
+verdict-map {Y = Y} f refused (m if t ∷ later) done =
+    let g : ℕ → Y = λ n. f (refused n) in
+    by-test t (λ e. ap f (stop refused done m t later e) ∙ sym (stop g (f done) m t later e))
+    (λ e. ap f (next refused done m t later e) ∙ verdict-map f refused later done ∙ sym (next g (f done) m t later e))
+
+module _ {X : Type 0} (number : X → ℕ) (refused : ℕ → X) (order : List Refusal) (done : X)
+    (is : (n : ℕ) → number (refused n) ≡ n) (zero : number done ≡ 0) {r : X} (e : r ≡ verdict refused order done) where
+  pub number-is : number r ≡ first order
+  unfolding first
+  number-is =
+      ap number e ∙ verdict-map number refused order done
+      ∙ ap₂ (λ (f : ℕ → ℕ) (z : ℕ). verdict f order z) (λ i n. is n i) zero
+
+  -- an answer with the number 0: no refusal applies, and it is the done one
+  pub accepted : T (numbered order) → number r ≡ 0 → Passes order × (r ≡ done)
+  accepted h z =
+      let f : first order ≡ 0 = sym number-is ∙ z in
+      (clear order h f, e ∙ done-by refused done order h f)
+
+  -- any other is the refusal with its number
+  pub refusal : number r ≢ 0 → r ≡ refused (number r)
+  refusal h = e ∙ refused-by refused done order (λ z. h (number-is ∙ z)) ∙ ap refused (sym number-is)
+
+-- ---- an order in two parts
+
+pub verdict-append : {X : Type 0} (refused : ℕ → X) (xs ys : List Refusal) (done : X)
+    → verdict refused (xs ++ ys) done ≡ verdict refused xs (verdict refused ys done)
+unfolding verdict
+verdict-append refused [] ys done = refl
+verdict-append refused (m if t ∷ later) ys done =
+    let then = verdict refused ys done in
+    by-test t (λ e. stop refused done m t (later ++ ys) e ∙ sym (stop refused then m t later e))
+    (λ e. next refused done m t (later ++ ys) e ∙ verdict-append refused later ys done ∙ sym (next refused then m t later e))
+
+module _ {X : Type 0} (refused : ℕ → X) (xs ys : List Refusal) (done : X) {r : X} where
+  -- the first part decides, by its number
+  pub early : r ≡ refused (first xs) → first xs ≢ 0 → r ≡ verdict refused (xs ++ ys) done
+  early e h = e ∙ sym (verdict-append refused xs ys done ∙ refused-by refused (verdict refused ys done) xs h)
+
+  -- the first part passes, and the second decides
+  pub late : Passes xs → r ≡ verdict refused ys done → r ≡ verdict refused (xs ++ ys) done
+  late h e = e ∙ sym (verdict-append refused xs ys done ∙ pass refused (verdict refused ys done) xs h)
+
+-- ---- one outcome
+
+-- two answers that meet one equation are equal, where the outcome tells answers apart
+pub determined : {X A : Type 0} (outcome : A → X) → ((a b : A) → outcome a ≡ outcome b → a ≡ b) → (x : X) {a b : A}
+    → outcome a ≡ x → outcome b ≡ x → a ≡ b
+determined outcome apart x {a} {b} p q = apart a b (p ∙ sym q)

@@ -1,0 +1,3 @@
+-- The laws of the refusal order.
+pub mod Tests
+pub mod Laws

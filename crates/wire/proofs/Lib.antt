@@ -1,0 +1,6 @@
+-- The laws of the definitions.
+pub mod Numbers
+pub mod Parts
+pub mod Splices
+pub mod Differences
+pub mod Places
