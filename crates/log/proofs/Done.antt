@@ -1,0 +1,80 @@
+-- What is left where nothing is refused: the new nodes behind the old ones, and the peaks folded.
+use mathlib.Core.Path.{_≡_, sym, ap, ap₂, _∙_}
+use mathlib.Core.List.{List, _++_}
+use Prim.Native.Nat.{ℕ, suc, _+_, _-_, _*_, _^_, _≤_}
+use native.Mathlib.Nat.{add-zero}
+use native.Mathlib.Numerals.{add-one}
+use native.Mathlib.Omega.{arith}
+use lib.ListN.{length, take, drop}
+use lib.Pow.{pow-mono}
+use Rattle.digest.specs.Digest.{digestOf, digest-length}
+use Rattle.wire.specs.Runs.{splice}
+use Rattle.wire.proofs.Splices.{splice-length, splice-lent}
+use Rattle.shape.specs.Sizes.{sizeOf, trailingOnes, hashCount, heightOf}
+use Rattle.shape.specs.Nodes.{newNodes}
+use Rattle.shape.specs.Positions.{peaksIn, peaks, fold}
+use Rattle.shape.proofs.Heights.{height-above, height-least}
+use Rattle.shape.proofs.Appends.{new-length}
+use Rattle.log.specs.Nodes.{nodeIn, joined}
+use Rattle.log.specs.Steps.{Lefts, leftIn, ups, Foldable}
+use Rattle.log.specs.Outcomes.{leaves, appended, appendDone, rooted, rootDone}
+use Rattle.log.specs.declared.Appended.{Appended}
+use Rattle.log.specs.declared.Rooted.{Rooted}
+use Rattle.log.proofs.Joined.{joined-length}
+use Rattle.log.proofs.Climbs.{new-ups, new-sized}
+use Rattle.log.proofs.Writing.{ups-bytes}
+use Rattle.log.proofs.Counting.{Counts, grown-size}
+
+module _ {size n m : ℕ} (rec bs : List ℕ) (k : Counts size n) (e : m ≡ trailingOnes n) (room : 32 * (size + (1 + m)) ≤ length bs) where
+  -- the part from byte 32 × size on, as it was lent and came back
+  pub new-bytes : {saved tail last : List ℕ} → Lefts bs size m saved
+      → tail ≡ splice 0 (joined (ups (leftIn saved) m (digestOf rec))) (take (length bs - 32 * size) (drop (32 * size) bs))
+      → last ≡ take (32 * size) bs ++ (tail ++ drop (length bs - 32 * size) (drop (32 * size) bs))
+      → last ≡ splice (32 * size) (joined (newNodes digestOf (nodeIn bs) (leaves size) (digestOf rec))) bs
+  new-bytes {saved} {tail} {last} l t w =
+      let xs = joined (ups (leftIn saved) m (digestOf rec)) in
+      let long : length xs ≡ 32 * (1 + m) = ups-bytes (leftIn saved) m (digestOf rec) (digest-length rec) in
+      w
+      ∙ ap (λ (x : List ℕ). take (32 * size) bs ++ (x ++ drop (length bs - 32 * size) (drop (32 * size) bs))) t
+      ∙ splice-lent (32 * size) (length bs - 32 * size) 0 xs bs (omega arith) (omega arith)
+      ∙ ap₂ (λ (at : ℕ) (x : List ℕ). splice at x bs) (add-zero (32 * size))
+      (ap joined
+      (ap (λ (j : ℕ). ups (leftIn saved) j (digestOf rec)) e
+      ∙ new-ups (nodeIn bs) (leftIn saved) size (digestOf rec) n (sym (k .is)) (λ i h. l .each i (omega arith))
+      ∙ ap (λ (x : ℕ). newNodes digestOf (nodeIn bs) x (digestOf rec)) (sym (k .value))))
+
+  -- as long as it was
+  pub new-fits : length (splice (32 * size) (joined (newNodes digestOf (nodeIn bs) (leaves size) (digestOf rec))) bs) ≡ length bs
+  new-fits =
+      let xs = newNodes digestOf (nodeIn bs) (leaves size) (digestOf rec) in
+      let l : length (joined xs) ≡ 32 * length xs = joined-length xs (new-sized (nodeIn bs) (leaves size) (digestOf rec) (digest-length rec)) in
+      let c : length xs ≡ 1 + m =
+      new-length digestOf (nodeIn bs) (leaves size) (digestOf rec) ∙ ap (λ (x : ℕ). 1 + x) (ap trailingOnes (k .value) ∙ sym e) in
+      splice-length (32 * size) (joined xs) bs (omega arith)
+
+  pub append-done : {r : Appended} {last : List ℕ} → r .number ≡ 0 → r .size ≡ size + (1 + m) → r .count ≡ 1 + m
+      → last ≡ splice (32 * size) (joined (newNodes digestOf (nodeIn bs) (leaves size) (digestOf rec))) bs
+      → appended r last ≡ appendDone size rec bs
+  unfolding appendDone
+  append-done {r} {last} a b c d =
+      let s : r .size ≡ sizeOf (suc (leaves size)) = b ∙ sym (grown-size k e) in
+      let t : r .count ≡ hashCount (leaves size) = c ∙ ap (λ (x : ℕ). 1 + x) (e ∙ ap trailingOnes (sym (k .value))) in
+      λ i. record { number = a i; size = s i; count = t i; bytes = d i }
+
+module _ {size n h : ℕ} (bs : List ℕ) (k : Counts size n) (e : h ≡ heightOf n) where
+  -- no sum wraps below the root
+  pub root-room : (n ≡ 0 → ⊥) → Foldable (h + 1) n 0
+  root-room some =
+      let low : heightOf n ≤ 32 = height-least n 32 (k .most) in
+      let q : 2 ^ (h + 1) ≡ 2 ^ suc (heightOf n) = ap (λ (x : ℕ). 2 ^ x) (add-one h ∙ ap suc e) in
+      let p : 2 ^ suc (heightOf n) ≤ 2 ^ 33 = pow-mono {i = suc (heightOf n)} {j = 33} (omega arith) in
+      record { low = omega arith; some = omega arith; few = omega (arith, height-above n); near = omega arith }
+
+  pub root-done : {r : Rooted} → r .number ≡ 0 → r .digest .bytes ≡ fold digestOf (nodeIn bs) (peaksIn (h + 1) n 0) → rooted r ≡ rootDone size bs
+  unfolding rootDone peaks
+  root-done {r} a b =
+      let d : r .digest .bytes ≡ fold digestOf (nodeIn bs) (peaks (leaves size)) =
+      b
+      ∙ ap (λ (x : ℕ). fold digestOf (nodeIn bs) (peaksIn x n 0)) (add-one h ∙ ap suc e)
+      ∙ ap (λ (x : ℕ). fold digestOf (nodeIn bs) (peaksIn (suc (heightOf x)) x 0)) (sym (k .value)) in
+      λ i. record { number = a i; digest = d i }

@@ -1,0 +1,67 @@
+-- Each refusal is the first of its order that applies, and where none does the peaks are folded.
+use mathlib.Core.Path.{refl, ap}
+use native.Mathlib.Omega.{arith}
+use Rattle.order.proofs.Laws.{refuses, passes}
+use Rattle.shape.proofs.Sizes.{size-le}
+use Rattle.log.specs.Outcomes.{rooted, rootOrder, rootOutcome}
+use Rattle.log.proofs.Counting.{Counts, counts-leaves, counts-none}
+use Rattle.log.proofs.Done.{root-room, root-done}
+use borrow.Author.Needs.{needs}
+use Rattle.log.proofs.root.Statement.{statement}
+use Rattle.log.proofs.root.Tie as tie
+
+-- the leaf count, where there is one
+known : (c : tie.After-known-told) → Counts (c .before .before .before .before .before .args .size) (c .before .c .given .0 .0)
+known c = counts-leaves (c .before .before .before .leaf-count .ensures) (c .before .c .given .1)
+
+returns : tie.Need-returns
+unfolding rootOutcome rootOrder
+returns c =
+    let k = counts-none (c .before .before .before .before .before .args .size) (c .before .before .before .leaf-count .ensures) (c .before .enum-told .given .1) in
+    refuses 1 _ _ _ (ap rooted (c .not-rooted .ensures)) (search needs)
+
+returns-2 : tie.Need-returns-2
+unfolding rootOutcome rootOrder
+returns-2 c =
+    let k = known (c .before .before) in
+    refuses 10 _ _ _ (ap rooted (c .not-rooted2 .ensures)) (search needs)
+
+mul-if2 : tie.Need-mul-if2
+mul-if2 c = let k = known (c .before) in omega (arith, size-le (c .before .before .c .given .0 .0))
+
+returns-3 : tie.Need-returns-3
+unfolding rootOutcome rootOrder
+returns-3 c =
+    let k = known (c .before .before .before) in
+    refuses 4 _ _ _ (ap rooted (c .not-rooted3 .ensures)) (search needs)
+
+add-folded : tie.Need-add-folded
+add-folded c = let k = root-room (c .before .before .before .before .before .before .before .before .args .nodes .now) (known (c .before .before .before)) (c .height .ensures) (c .before .before .if1 .left) in omega arith
+
+folded-requires : tie.Need-folded-requires
+folded-requires c κs = root-room (c .before .before .before .before .before .before .before .before .args .nodes .now) (known (c .before .before .before)) (c .height .ensures) (c .before .before .if1 .left)
+
+returns-4 : tie.Need-returns-4
+unfolding rootOutcome rootOrder
+returns-4 c =
+    let k = known (c .before .before .before .before) in
+    passes _ _ _ (root-done (c .before .before .before .before .before .before .before .before .before .args .nodes .now) k (c .before .height .ensures) refl (c .folded .ensures)) (search needs)
+
+pub root-spec : {M : Type 1} → statement M
+root-spec =
+    tie.close
+    (tie.spec
+    (λ c κs. search needs)
+    (λ c. search needs)
+    (λ c. search needs)
+    (λ c κs. search needs)
+    returns
+    (λ c κs. search needs)
+    returns-2
+    mul-if2
+    (λ c κs. search needs)
+    returns-3
+    (λ c κs. search needs)
+    add-folded
+    folded-requires
+    returns-4)

@@ -1,0 +1,81 @@
+-- What append and root answer, and what an append leaves in the buffer, for every input.
+use mathlib.Core.List.{List, [], _∷_}
+use Prim.Native.Nat.{ℕ, suc, _*_, _^_}
+use lib.ListN.{length}
+use Rattle.digest.specs.Digest.{digestOf}
+use Rattle.order.specs.Order.{Refusal, _if_, _is_, _above_, _under_, verdict}
+use Rattle.shape.specs.Sizes.{sizeOf, countAnswer, hashCount}
+use Rattle.shape.specs.Nodes.{newNodes}
+use Rattle.shape.specs.Positions.{peaks, fold}
+use Rattle.wire.specs.Runs.{splice, zeros}
+use Rattle.log.specs.Nodes.{nodeIn, joined}
+use Rattle.log.specs.declared.Appended.{Appended}
+use Rattle.log.specs.declared.Rooted.{Rooted}
+
+-- the leaf count of a size
+abbrev pub leaves : ℕ → ℕ
+leaves size = countAnswer size .value
+
+-- ---- Append
+
+-- 01's number, the size, the hash count, and the buffer at return
+pub record AppendOutcome : Type 0 where
+  pub number : ℕ
+  pub size : ℕ
+  pub count : ℕ
+  pub bytes : List ℕ
+
+abbrev pub appended : Appended → List ℕ → AppendOutcome
+appended r bs = record { number = r .number; size = r .size; count = r .count; bytes = bs }
+
+-- a refusal: the size that was given, count 0, and no byte changed
+abbrev pub appendRefused : ℕ → List ℕ → ℕ → AppendOutcome
+appendRefused size bs number = record { number = number; size = size; count = 0; bytes = bs }
+
+-- 1, 2, 3, 4
+unfoldable pub appendOrder : ℕ → List ℕ → List ℕ → List Refusal
+appendOrder size rec bs =
+    1 if countAnswer size .number is 1
+    ∷ 2 if leaves size is 2 ^ 32
+    ∷ 3 if length rec above 16384
+    ∷ 4 if length bs under 32 * sizeOf (suc (leaves size))
+    ∷ []
+
+-- done: the new size, the hash count, and the new nodes from byte 32 × old size on, every other byte as it was
+unfoldable pub appendDone : ℕ → List ℕ → List ℕ → AppendOutcome
+appendDone size rec bs =
+    let n = leaves size in
+    record {
+      number = 0;
+      size = sizeOf (suc n);
+      count = hashCount n;
+      bytes = splice (32 * size) (joined (newNodes digestOf (nodeIn bs) n (digestOf rec))) bs;
+    }
+
+unfoldable pub appendOutcome : ℕ → List ℕ → List ℕ → AppendOutcome
+appendOutcome size rec bs = verdict (appendRefused size bs) (appendOrder size rec bs) (appendDone size rec bs)
+
+-- ---- Root
+
+-- 01's number and the digest
+pub record RootOutcome : Type 0 where
+  pub number : ℕ
+  pub digest : List ℕ
+
+abbrev pub rooted : Rooted → RootOutcome
+rooted r = record { number = r .number; digest = r .digest .bytes }
+
+-- a refusal: a digest all zero
+abbrev pub rootRefused : ℕ → RootOutcome
+rootRefused number = record { number = number; digest = zeros 32 }
+
+-- 1, 10, 4
+unfoldable pub rootOrder : ℕ → List ℕ → List Refusal
+rootOrder size bs = 1 if countAnswer size .number is 1 ∷ 10 if leaves size is 0 ∷ 4 if length bs under 32 * size ∷ []
+
+-- done: the rightmost peak, folded leftward
+unfoldable pub rootDone : ℕ → List ℕ → RootOutcome
+rootDone size bs = record { number = 0; digest = fold digestOf (nodeIn bs) (peaks (leaves size)) }
+
+unfoldable pub rootOutcome : ℕ → List ℕ → RootOutcome
+rootOutcome size bs = verdict rootRefused (rootOrder size bs) (rootDone size bs)

@@ -1,0 +1,97 @@
+// A log's nodes in a lent buffer: append and root.
+ghost use mathlib.Core.Path.{_≡_};
+ghost use Rattle.log.specs.Outcomes.{appended, appendOutcome, rooted, rootOutcome};
+ghost use Rattle.log.specs.Steps.{notAppended, notRooted};
+
+mod fold;
+mod new;
+
+use digest::Digest;
+use shape::Counted;
+
+// The answer of an append: 01's number, the size and the hash count.
+#[repr(C)]
+pub struct Appended {
+    pub number: u32,
+    pub size: u64,
+    pub count: u64,
+}
+
+// The answer of a root: 01's number and the digest.
+#[repr(C)]
+pub struct Rooted {
+    pub number: u32,
+    pub digest: Digest,
+}
+
+// A refused append: the size it was given.
+fn not_appended(number: u32, size: u64) -> Appended
+    ensures { λ r. ⌜ r ≡ notAppended number size ⌝ }
+{
+    Appended {
+        number,
+        size,
+        count: 0,
+    }
+}
+
+// One more record: the new nodes behind the old, the new size, and how many digests were worked out.
+pub fn append(size: u64, rec: &[u8], nodes: &mut [u8]) -> Appended
+    ensures { λ r. ⌜ appended r (now (nodes .exit)) ≡ appendOutcome size (now (rec .entry)) (now (nodes .entry)) ⌝ }
+{
+    let c = shape::leaf_count(size);
+    let Counted::Leaves(n) = c else {
+        return not_appended(1, size);
+    };
+    if n == 4294967296 {
+        return not_appended(2, size);
+    }
+    if 16384 < rec.len() {
+        return not_appended(3, size);
+    }
+    let m = shape::merges(n);
+    let count = 1 + m as u64;
+    let grown = size + count;
+    if (nodes.len() as u64) < 32 * grown {
+        return not_appended(4, size);
+    }
+    let lefts = new::lefts(nodes, size, m);
+    let at = (32 * size) as usize;
+    new::write_new(&mut nodes[at..], rec, lefts, m);
+    Appended {
+        number: 0,
+        size: grown,
+        count,
+    }
+}
+
+// A refused root: a digest all zero.
+fn not_rooted(number: u32) -> Rooted
+    ensures { λ r. ⌜ r ≡ notRooted number ⌝ }
+{
+    Rooted {
+        number,
+        digest: Digest { bytes: [0u8; 32] },
+    }
+}
+
+// The root of a log.
+pub fn root(size: u64, nodes: &[u8]) -> Rooted
+    ensures { λ r. ⌜ rooted r ≡ rootOutcome size (now (nodes .entry)) ⌝ }
+{
+    let c = shape::leaf_count(size);
+    let Counted::Leaves(n) = c else {
+        return not_rooted(1);
+    };
+    if n == 0 {
+        return not_rooted(10);
+    }
+    if (nodes.len() as u64) < 32 * size {
+        return not_rooted(4);
+    }
+    let d = fold::folded(nodes, shape::height(n) + 1, n, 0);
+    Rooted {
+        number: 0,
+        digest: d,
+    }
+}

@@ -1,0 +1,53 @@
+// The new nodes of an append: the leaf, and the parents above it.
+ghost use mathlib.Core.Path.{_≡_};
+ghost use Prim.Native.Nat.{_+_, _*_, _^_, _≤_, _<_};
+ghost use lib.ListN.{length};
+ghost use Rattle.digest.specs.Digest.{digestOf};
+ghost use Rattle.wire.specs.Runs.{splice};
+ghost use Rattle.log.specs.Nodes.{joined};
+ghost use Rattle.log.specs.Steps.{Lefts, leftIn, ups};
+use digest::Digest;
+
+// The left children of the parents, lowest first: at most 32 digests.
+pub(crate) struct Saved {
+    bytes: [u8; 1024],
+}
+
+// The left children of the m parents above a leaf that is to stand at position `size`.
+pub(crate) fn lefts(nodes: &[u8], size: u64, m: u32) -> Saved
+    requires { ⌜ (m ≤ 32) × (size ≤ 2 ^ 34) × (2 ^ m ≤ size + 1) ⌝ }
+    ensures { λ r. ⌜ Lefts (now (nodes .entry)) size m (r .bytes) ⌝ }
+{
+    let mut bytes = [0u8; 1024];
+    let mut span: u64 = 1;
+    let mut j: u32 = 0;
+    while j < m {
+        let p = size + (j as u64) - (2 * span - 1);
+        let d = wire::read_digest(nodes, (32 * p) as usize);
+        let at = 32 * (j as usize);
+        wire::write_digest(&mut bytes, at, d);
+        span = 2 * span;
+        j += 1;
+    }
+    Saved { bytes }
+}
+
+// The leaf and its m parents, into the front of the part that is lent.
+pub(crate) fn write_new(tail: &mut [u8], rec: &[u8], saved: Saved, m: u32)
+    requires { ⌜ (m ≤ 32) × (32 * (1 + m) ≤ length (now tail)) ⌝ }
+    ensures { λ _. ⌜ now (tail .exit) ≡ splice 0 (joined (ups (leftIn (saved .bytes)) m (digestOf (now (rec .entry))))) (now (tail .entry)) ⌝ }
+{
+    let bytes = saved.bytes;
+    let mut top = digest::digest_of(rec);
+    let leaf = top.bytes;
+    wire::write_digest(tail, 0, leaf);
+    let mut j: u32 = 0;
+    while j < m {
+        let left = wire::read_digest(&bytes, 32 * (j as usize));
+        let next = digest::digest_of_pair(Digest { bytes: left }, top);
+        top = next;
+        j += 1;
+        let parent = next.bytes;
+        wire::write_digest(tail, 32 * (j as usize), parent);
+    }
+}

@@ -1,0 +1,26 @@
+-- Laws of sizes, counts and positions; of trees and letters; and of what a buffer gives that holds a log's nodes.
+pub mod Powers
+pub mod Heights
+pub mod Trailing
+pub mod Sizes
+pub mod Counts
+pub mod Narrow
+pub mod Only
+pub mod Marks
+pub mod Differs
+pub mod Each
+pub mod Bind
+pub mod Prune
+pub mod Letters
+pub mod Trees
+pub mod Plain
+pub mod Ways
+pub mod Nodes
+pub mod Held
+pub mod Appends
+pub mod Leaves
+pub mod Peaks
+pub mod Positions
+pub mod Reading
+pub mod Seen
+pub mod Own

@@ -1,0 +1,36 @@
+-- The first difference of two lists of strings, and what it shows, over any digest function.
+use mathlib.Core.Path.{_≡_}
+use mathlib.Core.Logic.{_≢_}
+use mathlib.Core.List.{List, [], _∷_, List-discrete}
+use Prim.Native.Nat.{ℕ}
+use native.Mathlib.Decide.{ℕ-discrete}
+
+-- two strings are equal or not
+abbrev pub decided : (x y : List ℕ) → Dec (x ≡ y)
+decided x y = List-discrete ℕ-discrete x y
+
+-- one answer where a fact holds, another where it does not
+abbrev pub whether : {P A : Type 0} → Dec P → A → A → A
+whether (yes p) a b = a
+whether (no p) a b = b
+
+-- 1 where two strings differ, else 0
+unfoldable pub differs : List ℕ → List ℕ → ℕ
+differs x y = whether (decided x y) 0 1
+
+-- nothing differs; or the two strings that differ first
+pub data Diff : Type 0 where
+  agree : Diff
+  pair : List ℕ → List ℕ → Diff
+
+-- the first difference of two lists of one length
+unfoldable pub differ : List (List ℕ) → List (List ℕ) → Diff
+differ [] ys = agree
+differ (x ∷ xs) [] = agree
+differ (x ∷ xs) (y ∷ ys) = whether (decided x y) (differ xs ys) (pair x y)
+
+module _ (digest : List ℕ → List ℕ) where
+  -- what a comparison shows: P where nothing differs, and otherwise two different strings with one digest
+  abbrev pub Shown : Type 0 → Diff → Type 0
+  Shown P agree = P
+  Shown P (pair a b) = (a ≢ b) × (digest a ≡ digest b)
