@@ -32,7 +32,7 @@ appended r bs = record { number = r .number; size = r .size; count = r .count; b
 abbrev pub appendRefused : ℕ → List ℕ → ℕ → AppendOutcome
 appendRefused size bs number = record { number = number; size = size; count = 0; bytes = bs }
 
--- 1, 2, 3, 4
+-- no leaf count up to 2^32 has this size; append at 2^32 leaves; record above 16,384; node buffer under 32 × new size
 unfoldable pub appendOrder : ℕ → List ℕ → List ℕ → List Refusal
 appendOrder size rec bs =
     1 if countAnswer size .number is 1
@@ -69,7 +69,7 @@ rooted r = record { number = r .number; digest = r .digest .bytes }
 abbrev pub rootRefused : ℕ → RootOutcome
 rootRefused number = record { number = number; digest = zeros 32 }
 
--- 1, 10, 4
+-- no leaf count up to 2^32 has this size; root of an empty log; node buffer under 32 × size
 unfoldable pub rootOrder : ℕ → List ℕ → List Refusal
 rootOrder size bs = 1 if countAnswer size .number is 1 ∷ 10 if leaves size is 0 ∷ 4 if length bs under 32 * size ∷ []
 
