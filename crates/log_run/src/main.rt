@@ -1,0 +1,143 @@
+// A log of forty records over one buffer, then each refusal at its edge, to be compared with the second program's.
+mod given;
+mod lines;
+
+use given::append_lent;
+use given::buffer_of;
+use given::edge_of;
+use given::record_of;
+use given::root_lent;
+use libc::STDOUT_FILENO;
+use lines::show_appended;
+use lines::show_digest;
+use lines::show_number;
+use lines::show_rooted;
+
+// The lengths of the records, over and over.
+const LENGTHS: [usize; 11] = [0, 1, 31, 32, 33, 63, 64, 65, 200, 1024, 16384];
+
+// The digests of the nodes and of the bytes beyond the size.
+fn show_parts(size: u64, nodes: &[u8]) {
+    let at = edge_of(size, nodes.len());
+    show_digest(b"  nodes ", digest::digest_of(&nodes[..at]));
+    show_digest(b"  beyond ", digest::digest_of(&nodes[at..]));
+}
+
+// The digests of the two parts, and the root.
+fn show_state(size: u64, nodes: &[u8; 2624]) {
+    show_parts(size, nodes);
+    show_rooted(b"  root ", log::root(size, nodes));
+}
+
+// Record i, its first n bytes, appended, and the lines of that; the new size.
+fn append_next(size: u64, i: usize, n: usize, nodes: &mut [u8; 2624], shown: bool) -> u64 {
+    let rec = record_of(i);
+    let a = append_lent(size, &rec, n, nodes, 2624);
+    if shown {
+        show_number(b"append ", i as u64);
+        show_number(b", record of length ", n as u64);
+        show_appended(b": ", a);
+        show_state(a.size, nodes);
+    }
+    a.size
+}
+
+// Forty records; the size at the end.
+fn run(nodes: &mut [u8; 2624], shown: bool) -> u64 {
+    let lengths = LENGTHS;
+    let mut size: u64 = 0;
+    for i in 0..40 {
+        let next = append_next(size, i, lengths[i % 11], nodes, shown);
+        size = next;
+    }
+    size
+}
+
+// The digest of the whole buffer, after its label.
+fn show_whole(label: &[u8], nodes: &[u8; 2624]) {
+    show_digest(label, digest::digest_of(nodes));
+}
+
+// One append, and the whole buffer before and after.
+fn try_append(size: u64, n: usize, lent: usize, nodes: &mut [u8; 2624]) {
+    show_number(b"size ", size);
+    show_number(b", record of length ", n as u64);
+    show_number(b", buffer of length ", lent as u64);
+    io::write_all(STDOUT_FILENO, b":\n");
+    show_whole(b"  before ", nodes);
+    let rec = record_of(40);
+    let a = append_lent(size, &rec, n, nodes, lent);
+    show_appended(b"  append ", a);
+    show_whole(b"  after ", nodes);
+}
+
+// Sizes that no leaf count has, and the most leaves.
+fn try_sizes(nodes: &mut [u8; 2624]) {
+    try_append(2, 0, 2624, nodes);
+    try_append(5, 0, 2624, nodes);
+    try_append(6, 0, 2624, nodes);
+    try_append(9, 0, 2624, nodes);
+    try_append(18446744073709551615, 0, 2624, nodes);
+    try_append(8589934591, 0, 2624, nodes);
+    try_append(8589934592, 0, 2624, nodes);
+}
+
+// Where several refusals apply; a record and a buffer one byte too long or short, and just right.
+fn try_edges(nodes: &mut [u8; 2624]) {
+    try_append(2, 16385, 0, nodes);
+    try_append(8589934591, 16385, 0, nodes);
+    try_append(78, 16385, 2624, nodes);
+    try_append(78, 16385, 0, nodes);
+    try_append(78, 16384, 2527, nodes);
+    try_append(78, 16384, 2528, nodes);
+    try_append(79, 0, 2591, nodes);
+    try_append(79, 0, 2592, nodes);
+}
+
+// One root.
+fn try_root(size: u64, lent: usize, nodes: &[u8; 2624]) {
+    show_number(b"root of size ", size);
+    show_number(b", buffer of length ", lent as u64);
+    show_rooted(b": ", root_lent(size, nodes, lent));
+}
+
+// Roots at the edges, and of the log as it was before.
+fn try_roots(nodes: &[u8; 2624]) {
+    try_root(2, 2624, nodes);
+    try_root(2, 0, nodes);
+    try_root(8589934592, 2624, nodes);
+    try_root(18446744073709551615, 2624, nodes);
+    try_root(0, 2624, nodes);
+    try_root(0, 0, nodes);
+    try_root(81, 2591, nodes);
+    try_root(81, 2592, nodes);
+    try_root(8589934591, 2624, nodes);
+    try_root(1, 2624, nodes);
+    try_root(1, 31, nodes);
+    try_root(78, 2624, nodes);
+}
+
+// The log over a buffer of counting bytes.
+fn first_buffer() {
+    let mut nodes = buffer_of(1);
+    io::write_all(STDOUT_FILENO, b"empty:\n");
+    show_state(0, &nodes);
+    run(&mut nodes, true);
+    try_sizes(&mut nodes);
+    try_edges(&mut nodes);
+    try_roots(&nodes);
+    show_whole(b"after ", &nodes);
+}
+
+// The same records over other bytes: the same nodes and root.
+fn other_buffer() {
+    let mut nodes = buffer_of(3);
+    let size = run(&mut nodes, false);
+    io::write_all(STDOUT_FILENO, b"over other bytes:\n");
+    show_state(size, &nodes);
+}
+
+fn main() {
+    first_buffer();
+    other_buffer();
+}

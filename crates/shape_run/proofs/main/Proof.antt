@@ -1,0 +1,27 @@
+-- `shape_run::main` is safe and ends.
+use Prim.Native.Nat.{_-_, _≤_}
+use borrow.Author.Needs.{needs}
+use Rattle.shape_run.proofs.main.Statement.{statement}
+use Rattle.shape_run.proofs.main.Tie as tie
+
+abbrev Inv-loop : tie.InvT-loop
+Inv-loop n₀ n = n ≤ 17
+
+abbrev μ-loop : tie.MeasureT-loop
+μ-loop n₀ n = 17 - n
+
+pub main-spec : {M : Type 1} → statement M
+main-spec =
+    tie.close
+    (tie.spec
+    Inv-loop
+    μ-loop
+    (λ c κs. search needs)
+    (λ c κs. search needs)
+    (λ c κs. search needs)
+    (λ c. search needs)
+    (λ c κs. search needs)
+    (λ c. search needs)
+    (λ c. search needs)
+    (λ c. search needs)
+    (λ c. search needs))

@@ -1,0 +1,21 @@
+-- The other arm of a let-else that takes a leaf: the record is an empty part at the start.
+use mathlib.Core.Path.{_≡_, refl}
+use mathlib.Core.List.{List, [], _∷_}
+use Prim.Native.Nat.{ℕ}
+use denote.Enum.Declared.{tagOf}
+use types.Run.{OneOf, miss}
+use Rattle.stored.specs.declared.Node.{Node}
+use Rattle.stored.specs.declared.Node.the-variants.{Inner, Leaf, NotANode, RecordTooLong}
+use Rattle.stored.specs.Read.{valuesOf}
+use Rattle.stored.proofs.Node.{the-type}
+
+-- the other cases, by their places in the enum
+abbrev others : List ℕ
+others = 0 ∷ 2 ∷ 3 ∷ []
+
+pub no-leaf : (node : Node) (digest : List ℕ) → OneOf others (tagOf the-type node)
+    → (valuesOf node digest .start ≡ 0) × (valuesOf node digest .length ≡ 0)
+no-leaf Inner digest other = (refl, refl)
+no-leaf (Leaf n) digest other = absurd (miss others 1 tt other)
+no-leaf NotANode digest other = (refl, refl)
+no-leaf RecordTooLong digest other = (refl, refl)

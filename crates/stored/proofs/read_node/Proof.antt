@@ -1,0 +1,68 @@
+-- `stored::read_node` meets its contract: each return is the first refusal that applies, or done, in the order for the flag that was read.
+use mathlib.Core.Path.{sym, ap, ap₂, _∙_}
+use native.Mathlib.Omega.{arith}
+use Rattle.order.proofs.Laws.{refuses, passes}
+use Rattle.stored.specs.Nodes.{digestIn, statedIn}
+use Rattle.stored.specs.Read.{innerRead, leafRead, readOrder, readOutcome}
+use Rattle.stored.proofs.Flags.{read-inner, read-leaf}
+use borrow.Author.Needs.{needs}
+use Rattle.stored.proofs.read_node.Statement.{statement}
+use Rattle.stored.proofs.read_node.Tie as tie
+
+returns : tie.Need-returns
+unfolding readOutcome readOrder
+returns c = refuses 11 _ _ _ (c .refusal .ensures) (λ h. absurd (omega arith))
+
+returns-2 : tie.Need-returns-2
+unfolding readOutcome readOrder
+returns-2 c = refuses 11 _ _ _ (c .refusal2 .ensures) (λ h h′. absurd (omega arith))
+
+returns-3 : tie.Need-returns-3
+returns-3 c = refuses 11 _ _ _ (c .refusal3 .ensures) (search needs) ∙ sym (read-inner _ (c .before .before .if3 .taken))
+
+returns-4 : tie.Need-returns-4
+unfolding digestIn
+returns-4 c =
+    passes _ _ _ (ap innerRead (c .read-digest .ensures)) (search needs) ∙ sym (read-inner _ (c .before .before .if3 .taken))
+
+returns-5 : tie.Need-returns-5
+returns-5 c = refuses 11 _ _ _ (c .refusal4 .ensures) (search needs) ∙ sym (read-leaf _ (search needs))
+
+returns-6 : tie.Need-returns-6
+unfolding statedIn
+returns-6 c = refuses 3 _ _ _ (c .refusal5 .ensures) (search needs) ∙ sym (read-leaf _ (search needs))
+
+returns-7 : tie.Need-returns-7
+unfolding statedIn
+returns-7 c = refuses 11 _ _ _ (c .refusal6 .ensures) (search needs) ∙ sym (read-leaf _ (search needs))
+
+returns-8 : tie.Need-returns-8
+unfolding statedIn digestIn
+returns-8 c =
+    passes _ _ _ (ap₂ leafRead (c .before .before .before .read4 .ensures) (c .read-digest2 .ensures)) (search needs)
+    ∙ sym (read-leaf _ (search needs))
+
+pub read-node-spec : {M : Type 1} → statement M
+read-node-spec =
+    tie.close
+    (tie.spec
+    (λ c κs. search needs)
+    returns
+    (λ c. search needs)
+    (λ c κs. search needs)
+    returns-2
+    (λ c κs. search needs)
+    returns-3
+    (λ c κs. search needs)
+    returns-4
+    (λ c κs. search needs)
+    returns-5
+    (λ c κs. search needs)
+    (λ c. search needs)
+    (λ c κs. search needs)
+    returns-6
+    (λ c. search needs)
+    (λ c κs. search needs)
+    returns-7
+    (λ c κs. search needs)
+    returns-8)

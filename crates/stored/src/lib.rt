@@ -1,0 +1,153 @@
+// Stored nodes, written and read.
+//   inner: byte 00, digest; 33 bytes
+//   leaf: byte 01, digest, record length (4 bytes, big-endian), record; 37 + length bytes
+ghost use mathlib.Core.Path.{_≡_};
+ghost use Rattle.digest.specs.Digest.{digestOf};
+ghost use Rattle.wire.specs.Runs.{zeros};
+ghost use Rattle.stored.specs.Write.{wrote, leafOutcome, innerOutcome};
+ghost use Rattle.stored.specs.Read.{valuesOf, told, readOutcome, lent, recordPart};
+
+// The most bytes of a record.
+const MOST: usize = 16384;
+
+// What a writer answers: 01's number, and the length of the node that it wrote, 0 for a refusal.
+#[repr(C)]
+pub struct Written {
+    pub number: u32,
+    pub length: usize,
+}
+
+// What reading finds, a kind or a refusal: each refusal has a case of its own.
+pub enum Node {
+    Inner,
+    // The length of its record.
+    Leaf(usize),
+    // 11: unknown flag or wrong length.
+    NotANode,
+    // 3: stated record length above 16,384.
+    RecordTooLong,
+}
+
+// What the reader answers. The digest is all zero for a refusal.
+pub struct Reading {
+    pub node: Node,
+    pub digest: [u8; 32],
+}
+
+// Writes a leaf, its digest worked out from the record. Refuses by 3, 6.
+pub fn write_leaf(rec: &[u8], out: &mut [u8]) -> Written
+    ensures { λ r. ⌜ wrote r (now (out .exit)) ≡ leafOutcome digestOf (now (rec .entry)) (now (out .entry)) ⌝ }
+{
+    let n = rec.len();
+    if MOST < n {
+        return Written {
+            number: 3,
+            length: 0,
+        };
+    }
+    let length = 37 + n;
+    if out.len() < length {
+        return Written {
+            number: 6,
+            length: 0,
+        };
+    }
+    let digest = digest::digest_of(rec);
+    let bytes = digest.bytes;
+    wire::write_byte(out, 0, 1);
+    wire::write_digest(out, 1, bytes);
+    wire::write4(out, 33, n as u32);
+    wire::write_run(out, 37, rec);
+    Written { number: 0, length }
+}
+
+// Writes an inner node. Refuses by 6.
+pub fn write_inner(digest: [u8; 32], out: &mut [u8]) -> Written
+    ensures { λ r. ⌜ wrote r (now (out .exit)) ≡ innerOutcome digest (now (out .entry)) ⌝ }
+{
+    if out.len() < 33 {
+        return Written {
+            number: 6,
+            length: 0,
+        };
+    }
+    wire::write_byte(out, 0, 0);
+    wire::write_digest(out, 1, digest);
+    Written {
+        number: 0,
+        length: 33,
+    }
+}
+
+// Reads a node. Refuses by 11 for under 33 bytes, unknown flag, an inner node not of 33, a leaf under 37; then by 3; then by 11 for the
+// exact length.
+pub fn read_node(bytes: &[u8]) -> Reading
+    ensures { λ r. ⌜ told r ≡ readOutcome (now (bytes .entry)) ⌝ }
+{
+    let length = bytes.len();
+    if length < 33 {
+        return refusal(Node::NotANode);
+    }
+    let flag = bytes[0];
+    if 1 < flag {
+        return refusal(Node::NotANode);
+    }
+    if flag == 0 {
+        if length != 33 {
+            return refusal(Node::NotANode);
+        }
+        return Reading {
+            node: Node::Inner,
+            digest: wire::read_digest(bytes, 1),
+        };
+    }
+    if length < 37 {
+        return refusal(Node::NotANode);
+    }
+    let stated = wire::read4(bytes, 33) as usize;
+    if MOST < stated {
+        return refusal(Node::RecordTooLong);
+    }
+    if length != 37 + stated {
+        return refusal(Node::NotANode);
+    }
+    Reading {
+        node: Node::Leaf(stated),
+        digest: wire::read_digest(bytes, 1),
+    }
+}
+
+// The answer for a refusal: no kind, and the digest all zero.
+fn refusal(node: Node) -> Reading
+    ensures { λ r. ⌜ told r ≡ valuesOf node (zeros 32) ⌝ }
+{
+    Reading {
+        node,
+        digest: [0; 32],
+    }
+}
+
+// 01's number of what the reader answers: 0 for done.
+pub fn number_of(reading: Reading) -> u32
+    ensures { λ r. ⌜ r ≡ told reading .number ⌝ }
+{
+    let node = reading.node;
+    match node {
+        Node::Inner => 0,
+        Node::Leaf(_) => 0,
+        Node::NotANode => 11,
+        Node::RecordTooLong => 3,
+    }
+}
+
+// The record of a leaf, as a part of the bytes read; for an inner node and for a refusal an empty part at the start.
+pub fn record_of<'a>(bytes: &'a [u8]) -> &'a [u8]
+    ensures { λ r. ⌜ lent r ≡ recordPart (bytes .entry) ⌝ }
+{
+    let reading = read_node(bytes);
+    let node = reading.node;
+    let Node::Leaf(n) = node else {
+        return &bytes[..0];
+    };
+    &bytes[37..37 + n]
+}

@@ -1,0 +1,206 @@
+// Stored nodes at 01's edges, written and read, to be compared with the second program's.
+ghost use mathlib.Core.Path.{_≡_};
+ghost use Prim.Native.Nat.{ℕ, _<_, _%_};
+ghost use lib.ListN.{getD};
+ghost use Rattle.stored.specs.Read.{readOutcome};
+use libc::STDOUT_FILENO;
+use stored::Node;
+use stored::Written;
+
+// What a caller that wants a leaf learns: the length of its record; else the reader's number, and length 0.
+struct Wanted {
+    number: u32,
+    length: usize,
+}
+
+// Takes the leaf case apart, and returns the refusal otherwise.
+fn leaf_length(bytes: &[u8]) -> Wanted
+    ensures { λ r. ⌜ (r .number ≡ readOutcome (now (bytes .entry)) .number) × (r .length ≡ readOutcome (now (bytes .entry)) .length) ⌝ }
+{
+    let reading = stored::read_node(bytes);
+    let node = reading.node;
+    let Node::Leaf(length) = node else {
+        return Wanted {
+            number: stored::number_of(reading),
+            length: 0,
+        };
+    };
+    Wanted { number: 0, length }
+}
+
+// Byte i is i mod 251: enough for a leaf whose record is one byte too long.
+fn counting() -> [u8; 16422]
+    ensures { λ r. ⌜ ((k : ℕ) → k < 16422 → getD r k 0 ≡ k % 251) ⌝ }
+{
+    let mut out = [0u8; 16422];
+    for i in 0..16422 {
+        out[i] = (i % 251) as u8;
+    }
+    out
+}
+
+// The first n bytes, or all where there are fewer.
+fn first<'a>(bytes: &'a [u8], n: usize) -> &'a [u8] {
+    if n <= bytes.len() {
+        return &bytes[..n];
+    }
+    bytes
+}
+
+// What is printed: words, and after a space each a number, 32 bytes, the digest of bytes, a kind.
+fn say(word: &[u8]) {
+    io::write_all(STDOUT_FILENO, word);
+}
+
+fn say_number(n: u64) {
+    say(b" ");
+    io::print_decimal(STDOUT_FILENO, n);
+}
+
+fn say_hex(bytes: [u8; 32]) {
+    say(b" ");
+    say(&hex::digits_of(bytes));
+}
+
+fn say_digest(bytes: &[u8]) {
+    let d = digest::digest_of(bytes);
+    let b = d.bytes;
+    say_hex(b);
+}
+
+fn say_kind(node: Node) {
+    match node {
+        Node::Inner => say(b" inner"),
+        Node::Leaf(_) => say(b" leaf"),
+        Node::NotANode => say(b" none"),
+        Node::RecordTooLong => say(b" none"),
+    }
+}
+
+// A line on what is read in bytes: their length; the number, the kind and the digest; the record's length and its digest.
+fn show_read(bytes: &[u8]) {
+    let reading = stored::read_node(bytes);
+    let node = reading.node;
+    let digest = reading.digest;
+    let wanted = leaf_length(bytes);
+    say(b"  read");
+    say_number(bytes.len() as u64);
+    say_number(wanted.number as u64);
+    say_kind(node);
+    say_hex(digest);
+    say_number(wanted.length as u64);
+    say_digest(stored::record_of(bytes));
+    say(b"\n");
+}
+
+// The end of a line on what was written: the number, the length, the digest of as many bytes, that of the buffer. Then what is read there.
+fn show_written(written: Written, out: &[u8]) {
+    let number = written.number;
+    let length = written.length;
+    say_number(number as u64);
+    say_number(length as u64);
+    say_digest(first(out, length));
+    say_digest(out);
+    say(b"\n");
+    if number == 0 {
+        show_read(first(out, length));
+    }
+}
+
+// A line on writing the leaf of a record: its length, the buffer's, the buffer's digest before.
+fn show_leaf(rec: &[u8], out: &mut [u8]) {
+    say(b"leaf");
+    say_number(rec.len() as u64);
+    say_number(out.len() as u64);
+    say_digest(out);
+    show_written(stored::write_leaf(rec, out), out);
+}
+
+// The same for the first n bytes as the record, and the first room bytes as the buffer.
+fn try_leaf(bytes: &[u8], n: usize, out: &mut [u8], room: usize) {
+    if room <= out.len() {
+        show_leaf(first(bytes, n), &mut out[..room]);
+    }
+}
+
+// A line on writing an inner node: the buffer's length, the buffer's digest before.
+fn show_inner(digest: [u8; 32], out: &mut [u8]) {
+    say(b"inner");
+    say_number(out.len() as u64);
+    say_digest(out);
+    show_written(stored::write_inner(digest, out), out);
+}
+
+// The same for the first room bytes as the buffer.
+fn try_inner(digest: [u8; 32], out: &mut [u8], room: usize) {
+    if room <= out.len() {
+        show_inner(digest, &mut out[..room]);
+    }
+}
+
+// Reads the first n bytes of a node with this flag and stated record length.
+fn try_node(flag: u8, stated: u32, n: usize) {
+    let mut node = counting();
+    wire::write_byte(&mut node, 0, flag);
+    wire::write4(&mut node, 33, stated);
+    say(b"node");
+    say_number(flag as u64);
+    say_number(stated as u64);
+    say(b"\n");
+    show_read(first(&node, n));
+}
+
+// Leaves with records of several lengths; the last record is one byte too long.
+fn try_lengths(bytes: &[u8], out: &mut [u8]) {
+    try_leaf(bytes, 0, out, 16422);
+    try_leaf(bytes, 1, out, 16422);
+    try_leaf(bytes, 31, out, 16422);
+    try_leaf(bytes, 200, out, 16422);
+    try_leaf(bytes, 16384, out, 16422);
+    try_leaf(bytes, 16385, out, 16422);
+}
+
+// Buffers of the exact length and one byte short of it. The first refusal that applies: a record too long, a buffer too short.
+fn try_rooms(bytes: &[u8], out: &mut [u8]) {
+    try_leaf(bytes, 200, out, 237);
+    try_leaf(bytes, 200, out, 236);
+    try_leaf(bytes, 16384, out, 16420);
+    try_leaf(bytes, 16385, out, 16421);
+    let digest = wire::read_digest(bytes, 100);
+    try_inner(digest, out, 16422);
+    try_inner(digest, out, 33);
+    try_inner(digest, out, 32);
+}
+
+// Nodes of each flag around the lengths that 01 names, with a stated length that is right, one too small, one too large, or above 16,384.
+fn try_nodes() {
+    try_node(0, 0, 0);
+    try_node(0, 0, 32);
+    try_node(0, 0, 33);
+    try_node(1, 0, 33);
+    try_node(2, 0, 33);
+    try_node(0, 0, 34);
+    try_node(1, 0, 34);
+    try_node(1, 0, 36);
+    try_node(0, 0, 37);
+    try_node(1, 0, 37);
+    try_node(2, 0, 37);
+    try_node(1, 1, 37);
+    try_node(1, 0, 38);
+    try_node(1, 1, 38);
+    try_node(1, 16384, 16420);
+    try_node(1, 16384, 16421);
+    try_node(1, 16384, 16422);
+    try_node(1, 16385, 16421);
+    try_node(1, 16385, 16422);
+    try_node(1, 16385, 37);
+    try_node(1, 16385, 36);
+}
+
+fn main() {
+    let bytes = counting();
+    let mut out = counting();
+    try_lengths(&bytes, &mut out);
+    try_rooms(&bytes, &mut out);
+    try_nodes();
+}
