@@ -45,8 +45,8 @@ need_command() {
     command -v "$command" >/dev/null 2>&1 || die "no $command, with $* installed"
 }
 
-# static_library: proves digest_c where that is not done, and writes its archive
+# static_library CRATE: proves the crate where that is not done, and writes its archive
 static_library() {
-    (cd "$top" && rt staticlib digest_c) >"$work/rt.log" 2>&1 || { cat "$work/rt.log" >&2; die "digest_c was not built"; }
-    archive=$top/target/staticlib/libdigest_c.a
+    (cd "$top" && rt staticlib "$1") >"$work/rt.log" 2>&1 || { cat "$work/rt.log" >&2; die "$1 was not built"; }
+    archive=$top/target/staticlib/lib$1.a
 }

@@ -1,56 +1,14 @@
 /* The program that bench/digest.sh counts: the digest of this project and BLAKE3's portable C by two compilers, the
-   same work on the same bytes, one call after the other, and their results compared.
-     digest count   each call once between two marks; standard output names the calls in their order
-     digest time    each call many times; standard output names the calls, each with its nanoseconds */
+   same work on the same bytes, one call after the other, and their results compared. */
 #define _GNU_SOURCE
 #include <stdint.h>
-#include <stdio.h>
 #include <stdlib.h>
-#include <string.h>
-#include <time.h>
 #include "digest_c.h"
+#include "marks.h"
 
 /* theirs, by two compilers (theirs.c) */
 void gcc_digest(const uint8_t *bytes, size_t length, uint8_t out[32]);
 void clang_digest(const uint8_t *bytes, size_t length, uint8_t out[32]);
-
-/* ---- the marks: a counting run adds up what lies between mark_begin and mark_end */
-#ifdef CALLGRIND
-#include <valgrind/callgrind.h>
-#define mark_begin() CALLGRIND_ZERO_STATS
-#define mark_end() CALLGRIND_DUMP_STATS
-#else
-__attribute__((noinline)) void mark_begin(void) { __asm__ volatile("" ::: "memory"); }
-__attribute__((noinline)) void mark_end(void) { __asm__ volatile("" ::: "memory"); }
-#endif
-
-static int timing;
-
-static double now(void) {
-    struct timespec t;
-    clock_gettime(CLOCK_MONOTONIC, &t);
-    return (double)t.tv_sec * 1e9 + (double)t.tv_nsec;
-}
-
-/* one call: counted once, or timed, the best of many rounds */
-#define MEASURE(SIDE, NAME, CALL)                                              \
-    do {                                                                       \
-        if (!timing) {                                                         \
-            mark_begin();                                                      \
-            CALL;                                                              \
-            mark_end();                                                        \
-            printf("%s\t%s\n", SIDE, NAME);                                    \
-            break;                                                             \
-        }                                                                      \
-        double best = 1e30;                                                    \
-        for (int round = 0; round < 20; round++) {                             \
-            double from = now();                                               \
-            for (int k = 0; k < 50; k++) CALL;                                 \
-            double each = (now() - from) / 50;                                 \
-            if (each < best) best = each;                                      \
-        }                                                                      \
-        printf("%s\t%s\t%.0f\n", SIDE, NAME, best);                            \
-    } while (0)
 
 #define LONGEST 100000
 static uint8_t input[LONGEST], ours[32], gcc[32], clang[32];

@@ -10,7 +10,7 @@ set -eu
 # shellcheck source=bench/common.sh
 . "$(dirname "$0")/common.sh"
 need_command "${prefix}objdump" "$binutils_package"
-if [ $# -gt 0 ]; then archive=$1; else static_library; fi
+if [ $# -gt 0 ]; then archive=$1; else static_library digest_c; fi
 "${prefix}objdump" -d --no-show-raw-insn "$archive" >"$work/code" || die "cannot read $archive"
 awk '
     /^[0-9a-f]+ </ { name = $0; sub(/^[0-9a-f]+ </, "", name); sub(/>:$/, "", name); next }

@@ -1,0 +1,99 @@
+# What digest.sh and append.sh share beside common.sh: BLAKE3's portable C by two compilers, and the counting of a program's calls.
+# shellcheck shell=sh disable=SC2034,SC2154
+here=$top/bench
+flags='-O3 -march=x86-64 -DBLAKE3_NO_SSE2 -DBLAKE3_NO_SSE41 -DBLAKE3_NO_AVX2 -DBLAKE3_NO_AVX512'
+
+sources_found() {
+    for blake3 in /usr/share/cargo/registry/blake3-*/c; do :; done
+    [ -f "$blake3/blake3_portable.c" ]
+}
+
+find_sources() {
+    sources_found || install_packages librust-blake3-dev
+    sources_found || die "no BLAKE3 C code in librust-blake3-dev"
+    version=$(basename "$(dirname "$blake3")")
+}
+
+# The kit's clang has no headers of its own and is handed gcc's. Portable code calls no intrinsic: their header is empty,
+# for both compilers.
+find_compilers() {
+    # shellcheck disable=SC2086
+    need_command "${prefix}gcc" $compiler_packages
+    need_command "${prefix}objcopy" "$binutils_package"
+    gcc=${prefix}gcc
+    # shellcheck disable=SC2086
+    [ -f "$($gcc -print-file-name=libc.a)" ] || install_packages $compiler_packages
+    clang=$tools/clang
+    [ -x "$clang" ] || die "the kit has no clang for $machine"
+    mkdir "$work/include"
+    : >"$work/include/immintrin.h"
+    headers=$($gcc -E -v -x c /dev/null 2>&1 | sed -n '/^#include </,/^End of search/s,^ /,-isystem /,p' | tr '\n' ' ')
+}
+
+# theirs NAME COMPILER..: BLAKE3's C by one compiler, in one object whose only name is NAME_digest
+theirs() {
+    name=$1
+    shift
+    objects=
+    for source in "$blake3/blake3.c" "$blake3/blake3_dispatch.c" "$blake3/blake3_portable.c" "$here/theirs.c"; do
+        object=$work/$name-$(basename "$source" .c).o
+        # shellcheck disable=SC2086
+        "$@" $flags -DNAME="${name}_digest" -I"$work/include" -I"$blake3" -c "$source" -o "$object"
+        objects="$objects $object"
+    done
+    # shellcheck disable=SC2086
+    "${prefix}ld" -r -o "$work/$name-all.o" $objects
+    "${prefix}objcopy" --keep-global-symbol="${name}_digest" "$work/$name-all.o" "$work/$name.o"
+}
+
+# count_by_valgrind PROGRAM: the calls in their order go to names, a line each, and what each took to counts
+count_by_valgrind() {
+    "$1" time >"$work/times"
+    valgrind --tool=callgrind --callgrind-out-file="$work/part" "$1" count >"$work/names" 2>"$work/valgrind.log" ||
+        { cat "$work/valgrind.log" >&2; exit 1; }
+    k=0
+    while [ "$k" -lt "$(wc -l <"$work/names")" ]; do
+        k=$((k + 1))
+        sed -n 's/^totals: //p' "$work/part.$k"
+    done >"$work/counts"
+    how="counted by $(valgrind --version)"
+}
+
+# count_by_emulator PROGRAM: the same by the kit's emulator; what lies between the first instruction of mark_begin and that of mark_end
+count_by_emulator() {
+    [ -x "$tools/qemu-x86_64" ] || die "the kit has no emulator for $machine"
+    : >"$work/times"
+    {
+        status=0
+        "$tools/qemu-x86_64" -one-insn-per-tb -d nochain,exec "$1" count 2>&1 >"$work/names" || status=$?
+        echo "$status" >"$work/status"
+    } | LC_ALL=C awk '
+        $1 != "Trace" { print >"/dev/stderr"; next }
+        $NF == "mark_begin" { if (last != $NF) n = 0 }
+        $NF == "mark_end" { if (last != $NF) print n }
+        { n++; last = $NF }' >"$work/counts"
+    [ "$(cat "$work/status")" = 0 ] || exit 1
+    how="counted by the kit's emulator"
+}
+
+# counted PROGRAM ARGUMENT..: compiles the program from the arguments and both compilers' BLAKE3, and counts its calls
+counted() {
+    program=$1
+    shift
+    theirs gcc "$gcc"
+    # shellcheck disable=SC2086
+    theirs clang "$clang" --target=x86_64-linux-gnu -nostdinc $headers
+    marks=
+    if [ "$machine" = x86_64 ]; then
+        need_command valgrind valgrind
+        marks=-DCALLGRIND
+    fi
+    # shellcheck disable=SC2086
+    "$gcc" -O2 -static $marks -I"$here" "$@" "$work/gcc.o" "$work/clang.o" -o "$program"
+    if [ "$machine" = x86_64 ]; then count_by_valgrind "$program"; else count_by_emulator "$program"; fi
+    echo "Executed instructions, $how, and nanoseconds where they are measured."
+    echo "C: $version, portable, -O3 -march=x86-64."
+    echo "gcc: $($gcc --version | head -n 1)"
+    echo "clang: $($clang --version | head -n 1), the kit's"
+    paste "$work/names" "$work/counts" >"$work/measured"
+}

@@ -1,0 +1,2 @@
+-- What the calls for C answer and leave behind their pointers.
+pub mod Calls
