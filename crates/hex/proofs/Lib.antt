@@ -1,1 +1,2 @@
+-- Laws of digits.
 pub mod More

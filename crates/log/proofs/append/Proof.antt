@@ -4,13 +4,8 @@ use Prim.Native.Nat.{suc, _+_, _-_, _*_, _^_, _≤_}
 use native.Mathlib.Omega.{arith}
 use lib.ListN.{length, drop, length-drop}
 use lib.Seq.{length-take-le}
-use borrow.Rule.Slice.PartMut.{putMid}
-use Rattle.digest.specs.Digest.{digestOf}
-use Rattle.wire.specs.Runs.{splice}
 use Rattle.order.proofs.Laws.{refuses, passes}
 use Rattle.shape.specs.Sizes.{sizeOf}
-use Rattle.shape.specs.Nodes.{newNodes}
-use Rattle.log.specs.Nodes.{nodeIn, joined}
 use Rattle.log.specs.Outcomes.{leaves, appended, appendOrder, appendOutcome}
 use Rattle.log.specs.declared.Appended.{Appended}
 use Rattle.log.proofs.Counting.{Counts, counts-leaves, counts-none, grown-size, merges-few, lefts-room}
@@ -53,7 +48,9 @@ returns-4 c =
     refuses 4 _ _ _ (ap (λ (r : Appended). appended r (a .nodes .now)) (c .not-appended4 .ensures)) (search needs)
 
 -- and the room that the merges leave
-rooms : (c : tie.After-merges) → (c .merges .result ≤ 32) × (c .before .before .before .before .before .before .before .before .before .args .size ≤ 2 ^ 34) × (2 ^ c .merges .result ≤ c .before .before .before .before .before .before .before .before .before .args .size + 1)
+rooms : (c : tie.After-merges) →
+    let size = c .before .before .before .before .before .before .before .before .before .args .size in
+    (c .merges .result ≤ 32) × (size ≤ 2 ^ 34) × (2 ^ c .merges .result ≤ size + 1)
 rooms c =
     let k = known (c .before .before .before) in
     let r = lefts-room k (c .merges .ensures) in
@@ -84,30 +81,23 @@ write-new-requires c κs =
     let rest = drop (32 * a .size) (a .nodes .now) in
     (r .0, omega (arith, length-take-le (length (a .nodes .now) - 32 * a .size) rest (omega (arith, length-drop (32 * a .size) (a .nodes .now)))))
 
--- the buffer at return
-written-behind : (c : tie.After-slice-known2)
-    → putMid (32 * c .before .before .before .before .before .before .before .before .before .before .before .before .before .before .before .before .args .size) (length (c .before .before .before .before .before .before .before .before .before .before .before .before .before .before .before .before .args .nodes .now) - 32 * c .before .before .before .before .before .before .before .before .before .before .before .before .before .before .before .before .args .size) (c .before .before .before .before .before .before .before .before .before .before .before .before .before .before .before .before .args .nodes .now) (c .before .before .write-new .last .0)
-    ≡ splice (32 * c .before .before .before .before .before .before .before .before .before .before .before .before .before .before .before .before .args .size)
-    (joined (newNodes digestOf (nodeIn (c .before .before .before .before .before .before .before .before .before .before .before .before .before .before .before .before .args .nodes .now)) (leaves (c .before .before .before .before .before .before .before .before .before .before .before .before .before .before .before .before .args .size)) (digestOf (c .before .before .before .before .before .before .before .before .before .before .before .before .before .before .before .before .args .rec .now)))) (c .before .before .before .before .before .before .before .before .before .before .before .before .before .before .before .before .args .nodes .now)
-written-behind c =
-    let a = c .before .before .before .before .before .before .before .before .before .before .before .before .before .before .before .before .args in
-    let m = c .before .before .before .before .before .before .before .merges in
-    new-bytes (a .rec .now) (a .nodes .now) (known (c .before .before .before .before .before .before .before .before .before .before)) (m .ensures) (omega arith) (c .before .before .before .before .lefts .ensures) (c .before .before .write-new .ensures) refl
-
 same-length : tie.Need-same-length
 same-length c =
     let a = c .before .before .before .before .before .before .before .before .before .before .before .before .before .before .before .before .args in
-    let m = c .before .before .before .before .before .before .before .merges in
-    ap length (written-behind c) ∙ new-fits (a .rec .now) (a .nodes .now) (known (c .before .before .before .before .before .before .before .before .before .before)) (m .ensures) (omega arith)
+    let k = known (c .before .before .before .before .before .before .before .before .before .before) in
+    let e = c .before .before .before .before .before .before .before .merges .ensures in
+    ap length (new-bytes (a .rec .now) (a .nodes .now) k e (omega arith) (c .before .before .before .before .lefts .ensures) (c .before .before .write-new .ensures) refl)
+    ∙ new-fits (a .rec .now) (a .nodes .now) k e (omega arith)
 
 returns-5 : tie.Need-returns-5
 unfolding appendOutcome appendOrder
 returns-5 c =
     let a = c .before .before .before .before .before .before .before .before .before .before .before .before .before .before .before .before .args in
-    let m = c .before .before .before .before .before .before .before .merges in
     let k = known (c .before .before .before .before .before .before .before .before .before .before) in
+    let m = c .before .before .before .before .before .before .before .merges in
     let g : sizeOf (suc (leaves (a .size))) ≡ a .size + (1 + m .result) = grown-size k (m .ensures) in
-    passes _ _ _ (append-done (a .rec .now) (a .nodes .now) k (m .ensures) (omega arith) refl refl refl (written-behind c)) (search needs)
+    let w = new-bytes (a .rec .now) (a .nodes .now) k (m .ensures) (omega arith) (c .before .before .before .before .lefts .ensures) (c .before .before .write-new .ensures) refl in
+    passes _ _ _ (append-done (a .rec .now) (a .nodes .now) k (m .ensures) (omega arith) refl refl refl w) (search needs)
 
 pub append-spec : {M : Type 1} → statement M
 append-spec =
