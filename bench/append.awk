@@ -43,7 +43,7 @@ END {
         "C, clang", "ratio", timed ? "   ns: ours    clang" : ""
     for (i = 1; i <= n; i++) show(rows[i])
     print ""
-    held("instructions that ten doublings of the log add, in any row", grows, 200)
+    held("instructions that ten doublings of the log add, in any row", grows, 10)
     held("a record of 200 bytes to C's digests, the worst row", worst(200), 1.15)
     exit missed
 }

@@ -1,15 +1,15 @@
 -- How the loop of `leaf_count` narrows the count down: with k heights left it lies in a block of 2^k.
 use mathlib.Core.Path.{_≡_, sym, ap, _∙_}
 use mathlib.Core.Logic.{by-cases}
-use Prim.Native.Nat.{ℕ, suc, _+_, _-_, _*_, _^_, _≤_, _<_}
+use Prim.Native.Nat.{ℕ, suc, _+_, _-_, _*_, _/_, _%_, _^_, _≤_, _<_}
 use native.Mathlib.Nat.{mul-assoc}
 use native.Mathlib.Decide.{decLt}
 use native.Mathlib.Omega.{arith}
-use lib.Pow.{pow-pos, pow-mono}
-use lib.Count.{leadingZeros, leading-length}
+use lib.Pow.{pow-pos}
+use lib.Count.{ones, ones-le}
 use Rattle.shape.specs.Answers.{done, refused}
 use Rattle.shape.specs.Sizes.{sizeOf, countAnswer}
-use Rattle.shape.proofs.Sizes.{size-ge, size-zero, size-add, size-power, size-lt, size-mono}
+use Rattle.shape.proofs.Sizes.{size-ones, size-le, size-add, size-power, size-lt, size-mono}
 use Rattle.shape.proofs.Counts.{count-size, count-none}
 
 -- n leaves, whole blocks of 2^k, are taken and rest nodes are left; any count of this size is in the block that follows
@@ -21,27 +21,54 @@ pub record Narrowed (size k rest n : ℕ) : Type 0 where
   pub whole : n ≡ blocks * 2 ^ k
   pub within : (m : ℕ) → sizeOf m ≡ size → (n ≤ m) × (m < n + 2 ^ k)
 
-narrow-none : (size k : ℕ) → k ≤ 33 → size < 2 ^ k → Narrowed size k size 0
-narrow-none size k p q =
-    record {
-      height = p;
-      few = let m : 2 ^ k ≤ 2 ^ 33 = pow-mono {i = k} {j = 33} p in omega arith;
-      parts = omega (arith, size-zero);
-      blocks = 0;
-      whole = omega arith;
-      within = λ m e. (omega arith, omega (arith, size-ge m));
-    }
+-- where a count can be: half its size, and at most half of 33 ones more
+module _ (size : ℕ) (few : size ≤ 8589934591) where
+  count-most : (m : ℕ) → sizeOf m ≡ size → m ≤ 2 ^ 32
+  count-most m e =
+      by-cases (decLt (2 ^ 32) m) (λ l. absurd (omega (arith, size-lt (2 ^ 32) m l, size-power 32))) (λ l. omega arith)
 
--- the loop begins at the digits of the size, of which there are at most 33
-pub narrow-begin : (size : ℕ) → size ≤ 8589934591 → Narrowed size (64 - leadingZeros 64 size) size 0
-narrow-begin size p =
-    let t = leading-length 64 size (omega arith) in
-    let e : 64 - leadingZeros 64 size ≡ t .0 = omega arith in
-    let few : t .0 ≤ 33 =
-    by-cases (decLt 33 (t .0))
-    (λ l. absurd (let m : 2 ^ 34 ≤ 2 ^ t .0 = pow-mono {i = 34} {j = t .0} l in omega arith))
-    (λ l. omega arith) in
-    rw e (narrow-none size (t .0) few (t .2))
+  count-half : (m : ℕ) → sizeOf m ≡ size → (size ≤ 2 * m) × (2 * m ≤ size + 33)
+  count-half m e =
+      let o : ones m ≤ 33 = ones-le 33 m (omega (arith, count-most m e)) in
+      (omega (arith, size-ones m), omega (arith, size-ones m))
+
+  -- n begins 32 counts in a row among which each count of this size is
+  abbrev pub Near : ℕ → Type 0
+  Near n = (n % 32 ≡ 0) × (n ≤ 2 ^ 32) × (sizeOf n ≤ size) × ((m : ℕ) → sizeOf m ≡ size → (n ≤ m) × (m < n + 32))
+
+  pub near-low : size < sizeOf (size / 64 * 32 + 32) → Near (size / 64 * 32)
+  near-low p = (
+    omega arith,
+    omega arith,
+    omega (arith, size-le (size / 64 * 32)),
+    λ m e. (
+      omega (arith, count-half m e),
+      by-cases (decLt m (size / 64 * 32 + 32)) (λ l. l) (λ l. absurd (omega (arith, size-mono (size / 64 * 32 + 32) m (omega arith)))),
+    ),
+  )
+
+  pub near-next : sizeOf (size / 64 * 32 + 32) ≤ size → Near (size / 64 * 32 + 32)
+  near-next p = (
+    omega arith,
+    by-cases (decLt (2 ^ 32) (size / 64 * 32 + 32)) (λ l. absurd (omega (arith, size-lt (2 ^ 32) (size / 64 * 32 + 32) l, size-power 32))) (λ l. omega arith),
+    p,
+    λ m e. (
+      by-cases (decLt m (size / 64 * 32 + 32)) (λ l. absurd (omega (arith, size-lt m (size / 64 * 32 + 32) l))) (λ l. omega arith),
+      omega (arith, count-half m e),
+    ),
+  )
+
+  -- the loop begins there, with five heights left
+  pub narrow-begin : (n rest : ℕ) → Near n → rest ≡ size - sizeOf n → Narrowed size 5 rest n
+  narrow-begin n rest c e =
+      record {
+        height = omega arith;
+        few = omega (arith, c .1);
+        parts = omega (arith, c .2);
+        blocks = n / 32;
+        whole = omega (arith, c .0);
+        within = c .3;
+      }
 
 -- one height: `span` leaves are the next block
 module _ (size k rest n span : ℕ) (pos : 0 < k) (is : span ≡ 2 ^ (k - 1)) (c : Narrowed size k rest n) where

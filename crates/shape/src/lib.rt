@@ -1,6 +1,6 @@
 // Sizes, positions and leaf counts of a log of up to 2^32 leaves.
 ghost use mathlib.Core.Path.{_≡_};
-ghost use Prim.Native.Nat.{_%_, _^_, _≤_};
+ghost use Prim.Native.Nat.{ℕ, _+_, _%_, _^_, _≤_, _<_};
 ghost use Rattle.shape.specs.Answers.{sized, placed, counted};
 ghost use Rattle.shape.specs.Sizes.{sizeOf, sizeAnswer, positionAnswer, countAnswer, trailingOnes, heightOf};
 
@@ -29,7 +29,7 @@ pub enum Counted {
 
 // 2n minus the ones in n.
 fn twice_less_ones(n: u64) -> u64
-    requires { ⌜ n ≤ 2 ^ 32 ⌝ }
+    requires { ⌜ n ≤ 2 ^ 33 ⌝ }
     ensures { λ r. ⌜ r ≡ sizeOf n ⌝ }
 {
     2 * n - u64::count_ones(n) as u64
@@ -75,6 +75,19 @@ pub fn leaf_position(i: u64) -> Placed
     }
 }
 
+// The first of 32 counts in a row, a multiple of 32, among which each count of this size is: a count is half its size and at most 16 more.
+fn near(size: u64) -> u64
+    requires { ⌜ size ≤ 8589934591 ⌝ }
+    ensures { λ r. ⌜ (r % 32 ≡ 0) × (r ≤ 2 ^ 32) × (sizeOf r ≤ size) × ((m : ℕ) → sizeOf m ≡ size → (r ≤ m) × (m < r + 32)) ⌝ }
+{
+    let low = size / 64 * 32;
+    let next = low + 32;
+    if twice_less_ones(next) <= size {
+        return next;
+    }
+    low
+}
+
 // The number of leaves, up to 2^32, whose size this is: from the tallest peak that fits down. 1 where there is none.
 pub fn leaf_count(size: u64) -> Counted
     ensures { λ r. ⌜ counted r ≡ countAnswer size ⌝ }
@@ -82,9 +95,9 @@ pub fn leaf_count(size: u64) -> Counted
     if MOST_NODES < size {
         return Counted::NoCount;
     }
-    let mut rest = size;
-    let mut n: u64 = 0;
-    let mut k = 64 - u64::leading_zeros(size);
+    let mut n = near(size);
+    let mut rest = size - twice_less_ones(n);
+    let mut k: u32 = 5;
     while 0 < k {
         k = k - 1;
         let span = power(k);

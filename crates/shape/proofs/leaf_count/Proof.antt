@@ -1,8 +1,7 @@
 -- The loop narrows the count down, height by height: `Narrow` has its beginning, a step and its end.
-use mathlib.Core.Path.{_≡_, sym, _∙_}
-use Prim.Native.Nat.{_+_, _-_, _*_, _^_, _≤_, _<_}
+use mathlib.Core.Path.{_≡_, sym, ap, _∙_}
+use Prim.Native.Nat.{ℕ, _+_, _-_, _*_, _^_, _≤_, _<_}
 use native.Mathlib.Omega.{arith}
-use lib.Count.{leading-le}
 use borrow.Author.Needs.{needs}
 use Rattle.shape.proofs.Powers.{power-small}
 use Rattle.shape.proofs.Narrow.{Narrowed, narrow-begin, narrow-take, narrow-skip, narrow-found, narrow-missing, narrow-room, count-above}
@@ -10,19 +9,18 @@ use Rattle.shape.proofs.leaf_count.Statement.{statement}
 use Rattle.shape.proofs.leaf_count.Tie as tie
 
 abbrev Inv-loop : tie.InvT-loop
-Inv-loop size rest₀ n₀ k₀ rest n k = Narrowed size k rest n
+Inv-loop size n₀ rest₀ k₀ n rest k = Narrowed size k rest n
 
 abbrev μ-loop : tie.MeasureT-loop
-μ-loop size rest₀ n₀ k₀ rest n k = k
+μ-loop size n₀ rest₀ k₀ n rest k = k
 
 returns : tie.Need-returns Inv-loop μ-loop
 returns c = sym (count-above (c .before .args .size) (omega arith))
 
-sub-k : tie.Need-sub-k Inv-loop μ-loop
-sub-k c = leading-le 64 _
-
 loop-holds : tie.Need-loop-holds Inv-loop μ-loop
-loop-holds c = narrow-begin (c .before .args .size) (omega arith)
+loop-holds c =
+    narrow-begin (c .before .before .before .args .size) (omega arith) (c .before .near .result) _ (c .before .near .ensures)
+    (ap (λ (x : ℕ). c .before .before .before .args .size - x) (c .twice-less-ones .ensures))
 
 -- in the loop the span is the next lower power of two, and what is known of a step
 module _ (c : tie.After-power Inv-loop μ-loop) where
@@ -60,7 +58,9 @@ leaf-count-spec =
     Inv-loop
     μ-loop
     returns
-    sub-k
+    (λ c κs. search needs)
+    (λ c κs. search needs)
+    (λ c. search needs)
     loop-holds
     (λ c. search needs)
     (λ c κs. search needs)
