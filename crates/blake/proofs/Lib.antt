@@ -1,5 +1,4 @@
 -- Laws that the proofs of this crate's functions cite.
-pub mod Table
 pub mod Builds
 pub mod Fill
 pub mod Turns

@@ -1,15 +1,30 @@
 -- P's rule, proved over its table: each entry is below 16, and new word i is old word P[i].
 use mathlib.Core.Path.{_≡_}
-use mathlib.Core.List.{List}
-use Prim.Native.Nat.{ℕ, _<_}
-use lib.ListN.{getD}
-use lib.Dec.{ltb, ltb→lt}
-use Rattle.blake.proofs.Builds.{build-at}
+use mathlib.Core.Bool.{Bool, true, false, _&&_}
+use mathlib.Core.List.{List, [], _∷_}
+use Prim.Native.Nat.{ℕ, zero, suc, _<_}
+use native.Mathlib.Omega.{arith}
+use lib.ListN.{length, getD}
+use lib.Dec.{T, ltb, ltb→lt}
 use Rattle.blake.specs.Blake.{order, permuted}
-use Rattle.blake.proofs.Table.{at}
+use Rattle.blake.proofs.Builds.{build-at}
+
+-- the test of a whole table: every entry is below k
+abbrev inside : ℕ → List ℕ → Bool
+inside k [] = true
+inside k (x ∷ xs) = ltb x k && inside k xs
+
+parts : (a b : Bool) → T (a && b) → T a × T b
+parts true b t = (tt, t)
+
+-- what the test says of each entry
+inside-at : (k : ℕ) (xs : List ℕ) → T (inside k xs) → (i : ℕ) → i < length xs → getD xs i 0 < k
+inside-at k [] t i h = absurd (omega arith)
+inside-at k (x ∷ xs) t zero h = ltb→lt x k (parts (ltb x k) (inside k xs) t .0)
+inside-at k (x ∷ xs) t (suc i) h = inside-at k xs (parts (ltb x k) (inside k xs) t .1) i (omega arith)
 
 pub order-inside : (i : ℕ) → i < 16 → getD order i 0 < 16
-order-inside i h = ltb→lt (getD order i 0) 16 (at (λ j x. ltb x 16) order tt i h)
+order-inside i h = inside-at 16 order tt i h
 
 pub permuted-at : (m : List ℕ) (i : ℕ) → i < 16 → getD (permuted m) i 0 ≡ getD m (getD order i 0) 0
 unfolding permuted
