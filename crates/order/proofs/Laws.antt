@@ -82,6 +82,18 @@ pub first-none : (order : List Refusal) → Passes order → 0 ≡ first order
 unfolding first
 first-none order h = sym (pass (λ m. m) 0 order h)
 
+-- a refusal that does not apply leaves it to the later ones
+pub first-next : (m : ℕ) (t : Test) (later : List Refusal) → Fails t → first (m if t ∷ later) ≡ first later
+unfolding first
+first-next m t later h = next (λ k. k) 0 m t later (false-of t h)
+
+-- two orders that begin with one refusal
+pub first-both : (m : ℕ) (t : Test) (xs ys : List Refusal) → (Fails t → first xs ≡ first ys) → first (m if t ∷ xs) ≡ first (m if t ∷ ys)
+unfolding first
+first-both m t xs ys h =
+    by-test t (λ e. stop (λ k. k) 0 m t xs e ∙ sym (stop (λ k. k) 0 m t ys e))
+    (λ e. next (λ k. k) 0 m t xs e ∙ h (fails-of t e) ∙ sym (next (λ k. k) 0 m t ys e))
+
 -- ---- what an answer tells
 
 -- the number 0 is that of no refusal

@@ -6,16 +6,12 @@ use native.Mathlib.Omega.{arith}
 use lib.ListN.{length}
 use Rattle.wire.specs.Numbers.{be}
 use Rattle.wire.specs.Runs.{splice, written}
+use Rattle.wire.specs.Writers.{wrote, writeDone}
 use Rattle.wire.proofs.Numbers.{be-length}
+use Rattle.wire.proofs.Writers.{write-done}
 use Rattle.wire.proofs.Splices.{written-fits, written-next}
 use Rattle.stored.specs.Nodes.{innerBytes, leafBytes}
-use Rattle.stored.specs.Write.{wrote, writeDone}
 use Rattle.stored.proofs.Fields.{head-length, leaf-length}
-
--- the answer and the bytes of a writer that is done
-done : (node out last : List ℕ) (n : ℕ) → n ≡ length node → last ≡ splice 0 node out
-    → wrote (record { number = 0; length = n }) last ≡ writeDone node out
-done node out last n e f = cc
 
 -- flag and digest, the fields that both kinds begin with
 head-filled : (flag : ℕ) (digest out : List ℕ) {l₁ l₂ : List ℕ} → 1 + length digest ≤ length out
@@ -28,7 +24,7 @@ pub inner-filled : (digest out : List ℕ) {l₁ l₂ : List ℕ} → length dig
     → wrote (record { number = 0; length = 33 }) l₂ ≡ writeDone (innerBytes digest) out
 unfolding innerBytes
 inner-filled digest out {l₁} {l₂} h k e₁ e₂ =
-    done (0 ∷ digest) out l₂ 33 (omega arith) (head-filled 0 digest out (omega arith) e₁ e₂)
+    write-done (0 ∷ digest) out l₂ 33 (omega arith) (head-filled 0 digest out (omega arith) e₁ e₂)
 
 pub leaf-filled : (digest : List ℕ → List ℕ) (rec out : List ℕ) {d l₁ l₂ l₃ l₄ : List ℕ} → length (digest rec) ≡ 32
     → 37 + length rec ≤ length out → d ≡ digest rec
@@ -43,4 +39,4 @@ leaf-filled digest rec out {d} {l₁} {l₂} {l₃} {l₄} h k e e₁ e₂ e₃ 
     let f₂ : l₂ ≡ splice 0 (1 ∷ x) out = head-filled 1 x out (omega arith) e₁ (e₂ ∙ rw e) in
     let f₃ : l₃ ≡ splice 0 (1 ∷ x ++ b) out = e₃ ∙ written-next 0 33 (1 ∷ x) b out l₂ f₂ (omega arith) (omega arith) in
     let f₄ : l₄ ≡ splice 0 (1 ∷ x ++ b ++ rec) out = e₄ ∙ written-next 0 37 (1 ∷ x ++ b) rec out l₃ f₃ (omega arith) (omega arith) in
-    done (1 ∷ x ++ b ++ rec) out l₄ (37 + length rec) (sym (leaf-length digest rec h)) f₄
+    write-done (1 ∷ x ++ b ++ rec) out l₄ (37 + length rec) (sym (leaf-length digest rec h)) f₄

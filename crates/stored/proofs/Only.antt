@@ -1,24 +1,14 @@
--- The statement of each call leaves one answer: the outcome tells any two answers apart, and any two buffers.
+-- The statement of the reader leaves one answer: the outcome tells any two apart.
 use mathlib.Core.Bool.{true, false}
 use mathlib.Core.Path.{_≡_, refl, sym, ap, _∙_}
 use mathlib.Core.List.{List}
 use Prim.Native.Nat.{ℕ}
 use lib.Dec.{eqb}
-use denote.Ref.{RefT}
 use Rattle.order.proofs.Laws.{determined}
 use Rattle.stored.specs.declared.Node.{Node}
 use Rattle.stored.specs.declared.Node.the-variants.{Inner, Leaf, NotANode, RecordTooLong}
 use Rattle.stored.specs.declared.Reading.{Reading}
-use Rattle.stored.specs.declared.Written.{Written}
-use Rattle.stored.specs.Write.{WriteOutcome, wrote}
-use Rattle.stored.specs.Read.{Kind, none, inner, leaf, ReadOutcome, valuesOf, told, lent, recordPart}
-
--- a writer's answer, with the bytes that it leaves
-pub write-only : (outcome : WriteOutcome) {p q : Written × List ℕ} → wrote (p .0) (p .1) ≡ outcome → wrote (q .0) (q .1) ≡ outcome
-    → p ≡ q
-write-only outcome e f =
-    determined (λ (p : Written × List ℕ). wrote (p .0) (p .1))
-    (λ p q g i. (record { number = g i .number; length = g i .length }, g i .bytes)) outcome e f
+use Rattle.stored.specs.Read.{Kind, none, inner, leaf, ReadOutcome, valuesOf, told}
 
 -- the case with this kind, number and length
 caseOf : Kind → ℕ → ℕ → Node
@@ -42,7 +32,3 @@ pub read-only : (outcome : ReadOutcome) {r s : Reading} → told r ≡ outcome �
 read-only =
     determined told
     (λ r s e. sym (answer-case (r .node) (r .digest)) ∙ ap answer e ∙ answer-case (s .node) (s .digest))
-
--- the record: the same bytes at the same place
-pub record-only : (read r s : RefT (List ℕ)) → lent r ≡ recordPart read → lent s ≡ recordPart read → lent r ≡ lent s
-record-only read r s e f = e ∙ sym f

@@ -11,7 +11,8 @@ use Rattle.wire.proofs.Parts.{part-length}
 use Rattle.wire.proofs.Splices.{splice-front}
 use Rattle.order.proofs.Laws.{passes, accepted}
 use Rattle.stored.specs.Nodes.{innerBytes, leafBytes, statedIn}
-use Rattle.stored.specs.Write.{WriteOutcome, writeRefused, writeDone, leafOrder, innerOrder, leafOutcome, innerOutcome}
+use Rattle.wire.specs.Writers.{WriteOutcome, writeRefused, writeDone}
+use Rattle.stored.specs.Write.{leafOrder, innerOrder, leafOutcome, innerOutcome}
 use Rattle.stored.specs.Read.{inner, leaf, innerRead, leafRead, readOutcome, recordIn}
 use Rattle.stored.proofs.Fields.{inner-digest, leaf-length, leaf-digest, leaf-stated, leaf-record, inner-whole, leaf-whole}
 use Rattle.stored.proofs.Ends.{inner-node, leaf-node, of-inner, of-leaf}

@@ -2,10 +2,11 @@
 use mathlib.Core.Bool.{true, false}
 use mathlib.Core.List.{List, [], _∷_, _++_}
 use Prim.Native.Nat.{ℕ, _+_}
-use denote.Ref.{RefT, ptr, now}
+use denote.Ref.{RefT, now}
 use lib.Dec.{eqb}
 use lib.ListN.{length}
 use Rattle.wire.specs.Runs.{zeros, part}
+use Rattle.wire.specs.Lent.{Part, partOf}
 use Rattle.order.specs.Order.{Refusal, _if_, _under_, _above_, _is-not_, verdict}
 use Rattle.stored.specs.declared.Node.{Node}
 use Rattle.stored.specs.declared.Node.the-variants.{Inner, Leaf, NotANode, RecordTooLong}
@@ -70,15 +71,6 @@ readOutcome bs = verdict (readRefused (zeros 32)) (readOrder bs) (readDone bs)
 unfoldable pub recordIn : List ℕ → List ℕ
 recordIn bs = part (readOutcome bs .start) (readOutcome bs .length) bs
 
--- a lent part: its bytes, and the place where they lie (a block, and an offset in it)
-pub record Part : Type 0 where
-  pub bytes : List ℕ
-  pub place : ℕ × ℕ
-
--- the part that a reference lends
-abbrev pub lent : RefT (List ℕ) → Part
-lent r = record { bytes = now r; place = ptr r }
-
 -- the record as a part of the bytes read
 abbrev pub recordPart : RefT (List ℕ) → Part
-recordPart r = record { bytes = recordIn (now r); place = (ptr r .0, ptr r .1 + readOutcome (now r) .start) }
+recordPart r = partOf (readOutcome (now r) .start) (readOutcome (now r) .length) r

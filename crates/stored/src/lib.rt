@@ -4,18 +4,14 @@
 ghost use mathlib.Core.Path.{_≡_};
 ghost use Rattle.digest.specs.Digest.{digestOf};
 ghost use Rattle.wire.specs.Runs.{zeros};
-ghost use Rattle.stored.specs.Write.{wrote, leafOutcome, innerOutcome};
-ghost use Rattle.stored.specs.Read.{valuesOf, told, readOutcome, lent, recordPart};
+ghost use Rattle.wire.specs.Writers.{wrote};
+ghost use Rattle.wire.specs.Lent.{lent};
+ghost use Rattle.stored.specs.Write.{leafOutcome, innerOutcome};
+ghost use Rattle.stored.specs.Read.{valuesOf, told, readOutcome, recordPart};
+use wire::Written;
 
 // The most bytes of a record.
 const MOST: usize = 16384;
-
-// What a writer answers: 01's number, and the length of the node that it wrote, 0 for a refusal.
-#[repr(C)]
-pub struct Written {
-    pub number: u32,
-    pub length: usize,
-}
 
 // What reading finds, a kind or a refusal: each refusal has a case of its own.
 pub enum Node {

@@ -5,7 +5,7 @@ ghost use lib.ListN.{getD};
 ghost use Rattle.stored.specs.Read.{readOutcome};
 use libc::STDOUT_FILENO;
 use stored::Node;
-use stored::Written;
+use wire::Written;
 
 // What a caller that wants a leaf learns: the length of its record; else the reader's number, and length 0.
 struct Wanted {

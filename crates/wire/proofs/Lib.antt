@@ -4,3 +4,5 @@ pub mod Parts
 pub mod Splices
 pub mod Differences
 pub mod Places
+pub mod Writers
+pub mod Lent

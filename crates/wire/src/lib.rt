@@ -7,6 +7,13 @@ ghost use lib.ListN.{length, drop, getD};
 ghost use Rattle.wire.specs.Numbers.{be, number};
 ghost use Rattle.wire.specs.Runs.{zeros, part, written, differ};
 
+// What a writer of one thing answers: 01's number, and the length of what it wrote, 0 for a refusal.
+#[repr(C)]
+pub struct Written {
+    pub number: u32,
+    pub length: usize,
+}
+
 // Reads the byte at a place.
 pub fn read_byte(s: &[u8], at: usize) -> u8
     ensures { λ r. ⌜ r ≡ getD (now (s .entry)) at 0 ⌝ }

@@ -1,14 +1,14 @@
 -- `stored::record_of` meets its contract: a leaf that was read has its stated length after byte 37, and any other answer has an empty part.
 use mathlib.Core.Path.{_≡_, sym, ap, _∙_}
 use mathlib.Core.List.{List}
-use Prim.Native.Nat.{ℕ, _+_, _-_, _≤_}
+use Prim.Native.Nat.{ℕ, _+_}
 use native.Mathlib.Omega.{arith}
 use denote.Ref.{RefT}
-use lib.ListN.{length, take, drop}
+use lib.ListN.{length}
 use Rattle.wire.specs.Runs.{part}
-use Rattle.wire.proofs.Parts.{part-within}
+use Rattle.wire.proofs.Lent.{slice-part}
 use Rattle.stored.specs.declared.Node.{Node}
-use Rattle.stored.specs.Read.{ReadOutcome, leafRead, valuesOf, told, readOutcome, recordIn, recordPart}
+use Rattle.stored.specs.Read.{ReadOutcome, leafRead, valuesOf, told, readOutcome, recordPart}
 use Rattle.stored.proofs.Ends.{of-leaf}
 use Rattle.stored.proofs.Else.{no-leaf}
 use borrow.Author.Needs.{needs}
@@ -19,12 +19,7 @@ use Rattle.stored.proofs.record_of.Tie as tie
 part-is : (read : RefT (List ℕ)) (o : ReadOutcome) (xs : List ℕ) (at : ℕ) → readOutcome (read .now) ≡ o
     → xs ≡ part (o .start) (o .length) (read .now) → at ≡ read .ptr .1 + o .start
     → record { bytes = xs; place = (read .ptr .0, at) } ≡ recordPart read
-unfolding recordIn
 part-is read o xs at p e f = rw (p, e, f)
-
--- n bytes from a start that lie within
-taken : (start n : ℕ) (bs : List ℕ) → start + n ≤ length bs → take (start + n - start) (drop start bs) ≡ part start n bs
-taken start n bs h = let k : start + n - start ≡ n = omega arith in rw (k, part-within start n bs)
 
 -- where a leaf was read, its record reaches to the end
 module _ (c : tie.After-known-told) where
@@ -61,7 +56,7 @@ returns-2 : tie.Need-returns-2
 returns-2 c =
     let b = c .before in
     let e = length-known b in
-    part-is (b .before .before .before .before .before .args .bytes) _ _ _ (read-known b) (taken 37 (n b) (bs b) (omega arith)) (omega arith)
+    part-is (b .before .before .before .before .before .args .bytes) _ _ _ (read-known b) (slice-part 37 (n b) (bs b) (omega arith)) (omega arith)
 
 pub record-of-spec : {M : Type 1} → statement M
 record-of-spec =
