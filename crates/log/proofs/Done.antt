@@ -1,28 +1,27 @@
 -- What is left where nothing is refused: the new nodes behind the old ones, and the peaks folded.
 use mathlib.Core.Path.{_≡_, sym, ap, ap₂, _∙_}
 use mathlib.Core.List.{List, _++_}
-use Prim.Native.Nat.{ℕ, suc, _+_, _-_, _*_, _^_, _≤_}
+use Prim.Native.Nat.{ℕ, suc, _+_, _-_, _*_, _≤_, _<_}
 use native.Mathlib.Nat.{add-zero}
-use native.Mathlib.Numerals.{add-one}
 use native.Mathlib.Omega.{arith}
 use lib.ListN.{length, take, drop}
-use lib.Pow.{pow-mono}
 use Rattle.digest.specs.Digest.{digestOf, digest-length}
 use Rattle.wire.specs.Runs.{splice}
 use Rattle.wire.proofs.Splices.{splice-length, splice-lent}
 use Rattle.shape.specs.Sizes.{sizeOf, trailingOnes, hashCount, heightOf}
 use Rattle.shape.specs.Nodes.{newNodes}
 use Rattle.shape.specs.Positions.{peaksIn, peaks, fold}
-use Rattle.shape.proofs.Heights.{height-above, height-least}
+use Rattle.shape.proofs.Heights.{height-holds}
 use Rattle.shape.proofs.Appends.{new-length}
-use Rattle.log.specs.Nodes.{nodeIn, joined}
-use Rattle.log.specs.Steps.{Lefts, leftIn, ups, Foldable}
+use Rattle.log.specs.Nodes.{nodeIn, foldFrom, joined}
+use Rattle.log.specs.Steps.{Lefts, leftIn, ups}
 use Rattle.log.specs.Outcomes.{leaves, appended, appendDone, rooted, rootDone}
 use Rattle.log.specs.declared.Appended.{Appended}
 use Rattle.log.specs.declared.Rooted.{Rooted}
 use Rattle.log.proofs.Joined.{joined-length}
 use Rattle.log.proofs.Climbs.{new-ups, new-sized}
 use Rattle.log.proofs.Writing.{ups-bytes}
+use Rattle.log.proofs.From.{from-any}
 use Rattle.log.proofs.Counting.{Counts, grown-size}
 
 module _ {size n m : ℕ} (rec bs : List ℕ) (k : Counts size n) (e : m ≡ trailingOnes n) (room : 32 * (size + (1 + m)) ≤ length bs) where
@@ -61,20 +60,12 @@ module _ {size n m : ℕ} (rec bs : List ℕ) (k : Counts size n) (e : m ≡ tra
       let t : r .count ≡ hashCount (leaves size) = c ∙ ap (λ (x : ℕ). 1 + x) (e ∙ ap trailingOnes (sym (k .value))) in
       λ i. record { number = a i; size = s i; count = t i; bytes = d i }
 
-module _ {size n h : ℕ} (bs : List ℕ) (k : Counts size n) (e : h ≡ heightOf n) where
-  -- no sum wraps below the root
-  pub root-room : (n ≡ 0 → ⊥) → Foldable (h + 1) n 0
-  root-room some =
-      let low : heightOf n ≤ 32 = height-least n 32 (k .most) in
-      let q : 2 ^ (h + 1) ≡ 2 ^ suc (heightOf n) = ap (λ (x : ℕ). 2 ^ x) (add-one h ∙ ap suc e) in
-      let p : 2 ^ suc (heightOf n) ≤ 2 ^ 33 = pow-mono {i = suc (heightOf n)} {j = 33} (omega arith) in
-      record { low = omega arith; some = omega arith; few = omega (arith, height-above n); near = omega arith }
-
-  pub root-done : {r : Rooted} → r .number ≡ 0 → r .digest .bytes ≡ fold digestOf (nodeIn bs) (peaksIn (h + 1) n 0) → rooted r ≡ rootDone size bs
-  unfolding rootDone peaks
-  root-done {r} a b =
-      let d : r .digest .bytes ≡ fold digestOf (nodeIn bs) (peaks (leaves size)) =
-      b
-      ∙ ap (λ (x : ℕ). fold digestOf (nodeIn bs) (peaksIn x n 0)) (add-one h ∙ ap suc e)
-      ∙ ap (λ (x : ℕ). fold digestOf (nodeIn bs) (peaksIn (suc (heightOf x)) x 0)) (sym (k .value)) in
-      λ i. record { number = a i; digest = d i }
+pub root-done : {size n : ℕ} (bs : List ℕ) → Counts size n → 0 < n → {r : Rooted} → r .number ≡ 0 → r .digest .bytes ≡ foldFrom digestOf bs n 0
+    → rooted r ≡ rootDone size bs
+unfolding rootDone peaks
+root-done {n = n} bs k some {r} a b =
+    let d : r .digest .bytes ≡ fold digestOf (nodeIn bs) (peaks (leaves _)) =
+    b
+    ∙ from-any digestOf bs n 0 (heightOf n) (height-holds n) some (k .most) (omega arith)
+    ∙ ap (λ (x : ℕ). fold digestOf (nodeIn bs) (peaksIn (suc (heightOf x)) x 0)) (sym (k .value)) in
+    λ i. record { number = a i; digest = d i }

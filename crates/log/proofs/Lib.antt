@@ -4,6 +4,7 @@ pub mod Climbs
 pub mod Saving
 pub mod Writing
 pub mod Folds
+pub mod From
 pub mod Counting
 pub mod Done
 pub mod Only

@@ -3,7 +3,7 @@ ghost use mathlib.Core.Path.{_≡_};
 ghost use Rattle.log.specs.Outcomes.{appended, appendOutcome, rooted, rootOutcome};
 ghost use Rattle.log.specs.Steps.{notAppended, notRooted};
 
-mod fold;
+pub mod fold;
 mod new;
 
 use digest::Digest;
@@ -89,7 +89,7 @@ pub fn root(size: u64, nodes: &[u8]) -> Rooted
     if (nodes.len() as u64) < 32 * size {
         return not_rooted(4);
     }
-    let d = fold::folded(nodes, shape::height(n) + 1, n, 0);
+    let d = fold::fold_from(nodes, n, 0);
     Rooted {
         number: 0,
         digest: d,

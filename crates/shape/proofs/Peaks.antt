@@ -30,9 +30,8 @@ peaks-none (suc k) s = peaks-skip k 0 s (pow-pos k) ∙ peaks-none k s
 pub peaks-low : (h n s : ℕ) → n ≤ 2 ^ h → peaksIn (suc (suc h)) n s ≡ peaksIn (suc h) n s
 peaks-low h n s p = peaks-skip (suc h) n s (omega (arith, pow-pos h))
 
-pub peaks-any : (h n : ℕ) → n ≤ 2 ^ h → peaksIn (suc h) n 0 ≡ peaks n
-unfolding peaks
-peaks-any h n p = any-height (λ (k : ℕ). peaksIn (suc k) n 0) n (λ k q. peaks-low k n 0 q) h p
+pub peaks-any : (h n s : ℕ) → n ≤ 2 ^ h → peaksIn (suc h) n s ≡ peaksIn (suc (heightOf n)) n s
+peaks-any h n s p = any-height (λ (k : ℕ). peaksIn (suc k) n s) n (λ k q. peaks-low k n s q) h p
 
 -- one peak is all
 pub peaks-full : (h n s : ℕ) → n ≡ 2 ^ h → peaksIn (suc h) n s ≡ top h s ∷ []

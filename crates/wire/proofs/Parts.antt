@@ -2,12 +2,12 @@
 use mathlib.Core.Path.{_≡_, refl, sym, ap, _∙_}
 use mathlib.Core.List.{List, [], _∷_, _++_}
 use Prim.Native.Nat.{ℕ, zero, suc, _+_, _-_, _≤_, _<_}
-use native.Mathlib.Nat.{add-zero, sub-add-cancel}
+use native.Mathlib.Nat.{add-zero, sub-add-cancel, le-of-eq}
 use native.Mathlib.Omega.{arith}
 use native.Mathlib.Decide.{decLt}
-use lib.ListN.{length, getD, take, drop, take-append-drop, List·getD-append, List·getD-eq-default}
+use lib.ListN.{length, getD, take, drop, take-append-drop, drop-of-length-le, List·getD-append, List·getD-eq-default}
 use lib.ListN.{length-append, length-drop, length-replicate, replicate-append-replicate}
-use lib.Seq.{length-take-le, take-length, take-at, take-append-le, take-append-add, drop-append-le, drop-append-add, drop-drop}
+use lib.Seq.{length-take-le, take-all, take-length, take-at, take-append-le, take-append-add, drop-append-le, drop-append-add, drop-drop}
 use lib.Seq.{getD-take, getD-drop, getD-append-add, ext-getD}
 use Rattle.wire.specs.Numbers.{Bytes}
 use Rattle.wire.specs.Runs.{zeros, part}
@@ -34,6 +34,11 @@ part-short at k bs h =
     let z : zeros k ≡ zeros (k - n) ++ zeros n = rw (replicate-append-replicate, sub-add-cancel h) in
     ap (λ (m : ℕ). take m (drop at bs ++ zeros k)) e
     ∙ rw (take-append-add, z, take-at (zeros (k - n)) (zeros n) (k - n) (length-replicate (k - n) 0))
+
+-- past the end there are zeros alone
+pub part-beyond : (at k : ℕ) (bs : List ℕ) → length bs ≤ at → part at k bs ≡ zeros k
+unfolding part
+part-beyond at k bs h = rw (drop-of-length-le bs h) (take-all k (zeros k) (le-of-eq (length-replicate k 0)))
 
 padded : (xs : List ℕ) (k i : ℕ) → getD (xs ++ zeros k) i 0 ≡ getD xs i 0
 padded [] zero i = refl

@@ -4,10 +4,8 @@ use native.Mathlib.Omega.{arith}
 use Rattle.order.proofs.Laws.{refuses, passes}
 use Rattle.shape.proofs.Sizes.{size-le}
 use Rattle.log.specs.Outcomes.{rooted, rootOrder, rootOutcome}
-use Rattle.log.specs.Steps.{Foldable}
-use Prim.Native.Nat.{_+_}
 use Rattle.log.proofs.Counting.{Counts, counts-leaves, counts-none}
-use Rattle.log.proofs.Done.{root-room, root-done}
+use Rattle.log.proofs.Done.{root-done}
 use borrow.Author.Needs.{needs}
 use Rattle.log.proofs.root.Statement.{statement}
 use Rattle.log.proofs.root.Tie as tie
@@ -37,23 +35,12 @@ returns-3 c =
     let k = known (c .before .before .before) in
     refuses 4 _ _ _ (ap rooted (c .not-rooted3 .ensures)) (search needs)
 
--- the room that the fold has
-room : (c : tie.After-height) → Foldable (c .height .result + 1) (c .before .before .before .before .c .given .0 .0) 0
-room c =
-    root-room (c .before .before .before .before .before .before .before .before .args .nodes .now) (known (c .before .before .before)) (c .height .ensures) (c .before .before .if1 .left)
-
-add-folded : tie.Need-add-folded
-add-folded c = let r = room c in omega arith
-
-folded-requires : tie.Need-folded-requires
-folded-requires c κs = room c
-
 returns-4 : tie.Need-returns-4
 unfolding rootOutcome rootOrder
 returns-4 c =
-    let k = known (c .before .before .before .before) in
+    let k = known (c .before .before .before) in
     passes _ _ _
-    (root-done (c .before .before .before .before .before .before .before .before .before .args .nodes .now) k (c .before .height .ensures) refl (c .folded .ensures)) (search needs)
+    (root-done (c .before .before .before .before .before .before .before .before .args .nodes .now) k (omega arith) refl (c .fold-from .ensures)) (search needs)
 
 pub root-spec : {M : Type 1} → statement M
 root-spec =
@@ -70,6 +57,4 @@ root-spec =
     (λ c κs. search needs)
     returns-3
     (λ c κs. search needs)
-    add-folded
-    folded-requires
     returns-4)

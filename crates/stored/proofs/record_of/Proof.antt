@@ -6,7 +6,7 @@ use native.Mathlib.Omega.{arith}
 use denote.Ref.{RefT}
 use lib.ListN.{length}
 use Rattle.wire.specs.Runs.{part}
-use Rattle.wire.proofs.Lent.{slice-part}
+use Rattle.wire.proofs.Lent.{slice-part, lent-part}
 use Rattle.stored.specs.declared.Node.{Node}
 use Rattle.stored.specs.Read.{ReadOutcome, leafRead, valuesOf, told, readOutcome, recordPart}
 use Rattle.stored.proofs.Ends.{of-leaf}
@@ -19,7 +19,7 @@ use Rattle.stored.proofs.record_of.Tie as tie
 part-is : (read : RefT (List ℕ)) (o : ReadOutcome) (xs : List ℕ) (at : ℕ) → readOutcome (read .now) ≡ o
     → xs ≡ part (o .start) (o .length) (read .now) → at ≡ read .ptr .1 + o .start
     → record { bytes = xs; place = (read .ptr .0, at) } ≡ recordPart read
-part-is read o xs at p e f = rw (p, e, f)
+part-is read o xs at p e f = rw p (lent-part read (o .start) (o .length) xs at e f)
 
 -- where a leaf was read, its record reaches to the end
 module _ (c : tie.After-known-told) where

@@ -53,8 +53,7 @@ pub +folded-spec : {M : Type 1} → statement M
     let f = half-bounds (a .k) (a .n) (a .s) (c .before .before .before .pre .1) (c .before .power .result) (c .before .power .ensures) in omega arith)
     (λ c. let a = c .before .before .before .args in
     let f = half-bounds (a .k) (a .n) (a .s) (c .before .before .before .pre .1) (c .before .power .result) (c .before .power .ensures) in omega arith)
-    (λ c κs. let a = c .before .before .before .args in
-    let f = half-bounds (a .k) (a .n) (a .s) (c .before .before .before .pre .1) (c .before .power .result) (c .before .power .ensures) in omega arith)
+    (λ c κs. search needs)
     -- it alone
     (λ c.
     let a = c .before .before .before .before .before .args in

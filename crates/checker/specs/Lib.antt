@@ -1,0 +1,2 @@
+-- What checking a letter returns.
+pub mod Outcome

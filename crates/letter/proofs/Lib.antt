@@ -1,0 +1,10 @@
+-- Laws of a letter.
+pub mod Turns
+pub mod Digests
+pub mod Sides
+pub mod Spelling
+pub mod Apart
+pub mod ItemsOf
+pub mod Putting
+pub mod Written
+pub mod Only

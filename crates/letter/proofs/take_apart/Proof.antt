@@ -1,0 +1,80 @@
+-- `letter::take_apart` meets its contract: each refusal is the first of its order that applies, and where none does the fields are those read.
+use mathlib.Core.Path.{_≡_, ap, _∙_}
+use Rattle.order.proofs.Laws.{refuses, passes}
+use Rattle.letter.specs.Bytes.{sizeIn, indexIn, statedIn}
+use Rattle.letter.specs.Items.{itemCount}
+use Rattle.letter.specs.Order.{FieldsOutcome, itemsFor, fieldsOrder, fieldsOutcome}
+use borrow.Author.Needs.{needs}
+use Rattle.letter.proofs.take_apart.Statement.{statement}
+use Rattle.letter.proofs.take_apart.Tie as tie
+
+-- the number of items is that for the letter's index
+counted : (c : tie.After-item-count) → let a = c .before .before .before .before .before .before .before .args in
+    c .item-count .result ≡ itemsFor (a .n) (a .letter .now)
+unfolding indexIn
+counted c =
+    let a = c .before .before .before .before .before .before .before .args in
+    c .item-count .ensures ∙ ap (itemCount (a .n)) (c .before .before .read82 .ensures)
+
+returns : tie.Need-returns
+unfolding fieldsOutcome fieldsOrder
+returns c = refuses 7 _ _ _ (c .no-fields .ensures) (search needs)
+
+returns-2 : tie.Need-returns-2
+unfolding fieldsOutcome fieldsOrder sizeIn
+returns-2 c = refuses 8 _ _ _ (c .no-fields2 .ensures) (search needs)
+
+returns-3 : tie.Need-returns-3
+unfolding fieldsOutcome fieldsOrder sizeIn indexIn
+returns-3 c = refuses 5 _ _ _ (c .no-fields3 .ensures) (search needs)
+
+returns-4 : tie.Need-returns-4
+unfolding fieldsOutcome fieldsOrder sizeIn indexIn
+returns-4 c = let k = counted (c .before .before) in refuses 15 _ _ _ (c .no-fields4 .ensures) (search needs)
+
+returns-5 : tie.Need-returns-5
+unfolding fieldsOutcome fieldsOrder sizeIn indexIn statedIn
+returns-5 c = let k = counted (c .before .before .before .before) in refuses 3 _ _ _ (c .no-fields5 .ensures) (search needs)
+
+returns-6 : tie.Need-returns-6
+unfolding fieldsOutcome fieldsOrder sizeIn indexIn statedIn
+returns-6 c = let k = counted (c .before .before .before .before .before) in refuses 7 _ _ _ (c .no-fields6 .ensures) (search needs)
+
+returns-7 : tie.Need-returns-7
+unfolding fieldsOutcome fieldsOrder sizeIn indexIn statedIn
+returns-7 c =
+    let k = counted (c .before .before .before .before) in
+    let f : FieldsOutcome = record {
+      number = 0;
+      index = c .before .before .before .before .before .before .read82 .result;
+      stated = c .before .before .read4 .result;
+      items = c .before .before .before .before .item-count .result;
+    } in
+    passes _ _ _ {r = f} (cc) (search needs)
+
+pub take-apart-spec : {M : Type 1} → statement M
+take-apart-spec =
+    tie.close
+    (tie.spec
+    (λ c κs. search needs)
+    returns
+    (λ c κs. search needs)
+    (λ c κs. search needs)
+    returns-2
+    (λ c κs. search needs)
+    (λ c κs. search needs)
+    returns-3
+    (λ c κs. search needs)
+    (λ c. search needs)
+    (λ c κs. search needs)
+    returns-4
+    (λ c κs. search needs)
+    (λ c. search needs)
+    (λ c κs. search needs)
+    returns-5
+    (λ c. search needs)
+    (λ c. search needs)
+    (λ c. search needs)
+    (λ c κs. search needs)
+    returns-6
+    returns-7)

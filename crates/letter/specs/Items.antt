@@ -1,0 +1,41 @@
+-- The items of a letter, over any digest function: how many there are, what a log's nodes give for them and for the leaf,
+-- the root worked out from them.
+use mathlib.Core.Bool.{true, false, _&&_}
+use mathlib.Core.List.{List, [], map}
+use Prim.Native.Nat.{ℕ, _^_}
+use lib.Dec.{ltb, leb}
+use lib.ListN.{length}
+use Rattle.wire.specs.Runs.{differ}
+use Rattle.shape.specs.Sizes.{positionAnswer}
+use Rattle.shape.specs.Positions.{itemPositions, fold}
+use Rattle.shape.specs.Tree.{Tree, root}
+use Rattle.shape.specs.Letter.{way, fill}
+use Rattle.log.specs.Nodes.{nodeIn}
+use Rattle.letter.specs.Bytes.{indexIn, recordIn, itemsIn}
+
+-- the number of items for index i of n leaves: one for each turn on the way to it, as many as 01 lists (`items-counted`)
+unfoldable pub itemCount : ℕ → ℕ → ℕ
+itemCount n i = length (way n i)
+
+module _ (digest : List ℕ → List ℕ) where
+  -- the items of index i, an index of n leaves, n at most 2^32, from the nodes in a buffer: peaks left of i's peak, tallest first; siblings from
+  -- the leaf upward; if peaks stand to the right, one digest, those peaks folded as for the root. Other numbers have no items
+  unfoldable pub itemsOf : List ℕ → ℕ → ℕ → List (List ℕ)
+  itemsOf bs n i =
+      elim (ltb i n && leb n (2 ^ 32)) [ true ↦ map (fold digest (nodeIn bs)) (itemPositions n i) | false ↦ [] ]
+
+  -- 1 where a record's digest isn't the leaf at its place, else 0
+  unfoldable pub foreign : List ℕ → ℕ → List ℕ → ℕ
+  foreign bs i rec = differ (digest rec) (nodeIn bs (positionAnswer i .value))
+
+  -- the tree that a record and items make on the way to index i of n leaves
+  abbrev pub treeOf : ℕ → ℕ → List ℕ → List (List ℕ) → Tree
+  treeOf n i rec items = fill (way n i) (digest rec) items
+
+  -- the tree that a letter shows for a log of n leaves
+  abbrev pub letterTree : ℕ → List ℕ → Tree
+  letterTree n letter = treeOf n (indexIn letter) (recordIn letter) (itemsIn (itemCount n (indexIn letter)) letter)
+
+  -- the root worked out from a letter
+  unfoldable pub workedRoot : ℕ → List ℕ → List ℕ
+  workedRoot n letter = root digest (letterTree n letter)

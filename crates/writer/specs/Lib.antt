@@ -1,0 +1,2 @@
+-- What writing a letter returns.
+pub mod Outcome
