@@ -1,5 +1,5 @@
 -- The items of an index: how many they are, that each has 32 bytes, and that from a buffer that holds a log's nodes they are the log's.
-use mathlib.Core.Path.{_≡_, refl, sym, ap, _∙_}
+use mathlib.Core.Path.{_≡_, ap, _∙_}
 use mathlib.Core.Logic.{by-cases}
 use mathlib.Core.List.{List, [], _∷_, _++_, map, map-append}
 use Prim.Native.Nat.{ℕ, zero, suc, _-_, _*_, _^_, _≤_, _<_}
@@ -18,7 +18,7 @@ use Rattle.shape.proofs.Each.{each-append}
 use Rattle.shape.proofs.Heights.{height-holds}
 use Rattle.shape.proofs.Peaks.{peaks-some}
 use Rattle.shape.proofs.Positions.{positions-one, positions-low, positions-left, positions-right, positions-past}
-use Rattle.shape.proofs.Reading.{fold-cons, items-read, positions-length}
+use Rattle.shape.proofs.Reading.{items-read, positions-length}
 use Rattle.log.specs.Nodes.{nodeIn, joined}
 use Rattle.log.proofs.Joined.{joined-length}
 use Rattle.letter.specs.Items.{itemCount, itemsOf}

@@ -1,5 +1,5 @@
 -- The items of a leaf, written one height after the other: the room that each call has, and what it leaves.
--- `half` stands for 2 ^ (h - 1) as the code has it, and `s + (2 * half - 1)` for the position behind the left side.
+-- `half` stands for 2 ^ (h - 1) as the code has it.
 use mathlib.Core.Path.{_≡_, refl, sym, ap, ap₂, _∙_}
 use mathlib.Core.List.{List, [], _∷_, _++_, map, map-append}
 use Prim.Native.Nat.{ℕ, suc, _+_, _-_, _*_, _%_, _^_, _≤_, _<_}
@@ -20,6 +20,14 @@ use Rattle.log.proofs.Joined.{joined-length, joined-append}
 use Rattle.log.proofs.Writing.{joined-one}
 use Rattle.log.proofs.From.{from-any}
 use Rattle.letter.proofs.ItemsOf.{node-length, itemsFrom, fold-length, from-each}
+
+-- the position behind the left side
+abbrev pub middle : ℕ → ℕ → ℕ
+middle s half = s + (2 * half - 1)
+
+-- the positions of the items on the right side
+abbrev toRight : ℕ → ℕ → ℕ → ℕ → ℕ → List (List ℕ)
+toRight h n i s half = positionsIn (suc (h - 1)) (n - half) (i - half) (middle s half)
 
 -- what a call asks of a buffer of `room` bytes
 abbrev pub Room : ℕ → ℕ → ℕ → ℕ → ℕ → ℕ → Type 0
@@ -49,7 +57,7 @@ pub record Above (h n i s at room half : ℕ) : Type 0 where
   pub fits : Room h n i s at room
 
 module _ {h n i s at room half : ℕ} (f : Above h n i s at room half) where
-  pub half-is : half ≡ 2 ^ (h - 1)
+  half-is : half ≡ 2 ^ (h - 1)
   half-is = f .power ∙ power-small 64 (h - 1) (omega (arith, f .fits .0))
 
   -- the height below, as the definitions count
@@ -66,10 +74,10 @@ module _ {h n i s at room half : ℕ} (f : Above h n i s at room half) where
   positions-at : {ps : List (List ℕ)} → positionsIn (suc (suc (h - 1))) n i s ≡ ps → positionsIn (suc h) n i s ≡ ps
   positions-at e = ap (λ (k : ℕ). positionsIn (suc k) n i s) height-below ∙ e
 
-  mid-is : behind (h - 1) s ≡ s + (2 * half - 1)
+  mid-is : behind (h - 1) s ≡ middle s half
   mid-is = omega (arith, pow-suc 2 (h - 1), half-is)
 
-  top-is : top (h - 1) s ≡ s + (2 * half - 1) - 1
+  top-is : top (h - 1) s ≡ middle s half - 1
   top-is = omega (arith, pow-suc 2 (h - 1), half-is, half-bounds .0)
 
   -- ---- all leaves at the height below
@@ -112,27 +120,30 @@ module _ {h n i s at room half : ℕ} (f : Above h n i s at room half) where
     -- ---- to the left
 
     module _ (l : i < half) where
-      left-same : positionsIn (suc h) n i s ≡ positionsIn (suc (h - 1)) half i s ++ (peaksIn (suc (h - 1)) (n - half) (s + (2 * half - 1)) ∷ [])
+      left-same : positionsIn (suc h) n i s ≡ positionsIn (suc (h - 1)) half i s ++ (peaksIn (suc (h - 1)) (n - half) (middle s half) ∷ [])
       left-same =
-          positions-at (positions-left (h - 1) n i s (omega (arith, half-is)) (omega (arith, pow-suc 2 (h - 1), half-is, rest-few)) (omega (arith, half-is)))
+          positions-at
+          (positions-left (h - 1) n i s (omega (arith, half-is)) (omega (arith, pow-suc 2 (h - 1), half-is, rest-few)) (omega (arith, half-is)))
           ∙ ap₂ {C = List (List ℕ)} (λ (x y : ℕ). positionsIn (suc (h - 1)) x i s ++ (peaksIn (suc (h - 1)) (n - x) y ∷ [])) (sym half-is) mid-is
 
       left-more : length (positionsIn (suc h) n i s) ≡ suc (length (positionsIn (suc (h - 1)) half i s))
-      left-more = ap length left-same ∙ length-append (positionsIn (suc (h - 1)) half i s) (peaksIn (suc (h - 1)) (n - half) (s + (2 * half - 1)) ∷ []) ∙ omega arith
+      left-more =
+          ap length left-same
+          ∙ length-append (positionsIn (suc (h - 1)) half i s) (peaksIn (suc (h - 1)) (n - half) (middle s half) ∷ []) ∙ omega arith
 
       pub left-room : Room (h - 1) half i s at room
       left-room =
           (omega (arith, f .fits .0), l, omega (arith, half-is), omega (arith, double, half-is, f .fits .3), omega (arith, left-more, f .fits .4))
 
       pub left-put : (bs d : List ℕ) {next : ℕ} {side before last : List ℕ} → length d ≡ room → Put bs (h - 1) half i s at d next before
-          → side ≡ foldFrom digestOf bs (n - half) (s + (2 * half - 1)) → last ≡ written next side before → Put bs h n i s at d (next + 32) last
+          → side ≡ foldFrom digestOf bs (n - half) (middle s half) → last ≡ written next side before → Put bs h n i s at d (next + 32) last
       left-put bs d {side = side} long p es el =
-          let ps : List ℕ = peaksIn (suc (h - 1)) (n - half) (s + (2 * half - 1)) in
+          let ps : List ℕ = peaksIn (suc (h - 1)) (n - half) (middle s half) in
           let e : side ≡ fold digestOf (nodeIn bs) ps =
-          es ∙ from-any digestOf bs (n - half) (s + (2 * half - 1)) (h - 1) (omega (arith, half-is, rest-few)) (rest-few .1)
+          es ∙ from-any digestOf bs (n - half) (middle s half) (h - 1) (omega (arith, half-is, rest-few)) (rest-few .1)
           (omega (arith, rest-few, half-bounds)) (omega (arith, half-bounds)) in
           let some : 0 < length ps =
-          peaks-some (suc (h - 1)) (n - half) (s + (2 * half - 1)) (rest-few .1) (omega (arith, rest-few, half-is, pow-suc 2 (h - 1), half-bounds)) in
+          peaks-some (suc (h - 1)) (n - half) (middle s half) (rest-few .1) (omega (arith, rest-few, half-is, pow-suc 2 (h - 1), half-bounds)) in
           put-behind bs d (positionsIn (suc (h - 1)) half i s) ps long left-same
           (from-each digestOf bs digest-length (h - 1) half i s l (omega (arith, half-is)))
           (ap length e ∙ fold-length digestOf bs digest-length ps some) (p .0) (p .1) e el
@@ -140,67 +151,69 @@ module _ {h n i s at room half : ℕ} (f : Above h n i s at room half) where
     -- ---- to the right
 
     module _ (l : half ≤ i) where
-      right-room : (from : ℕ) → from + 32 * length (positionsIn (suc (h - 1)) (n - half) (i - half) (s + (2 * half - 1))) ≤ room
-          → Room (h - 1) (n - half) (i - half) (s + (2 * half - 1)) from room
+      right-room : (from : ℕ) → from + 32 * length (toRight h n i s half) ≤ room
+          → Room (h - 1) (n - half) (i - half) (middle s half) from room
       right-room from k =
-          (omega (arith, f .fits .0), omega (arith, f .fits .1), omega (arith, half-is, rest-few), omega (arith, double, half-is, half-bounds, f .fits .3), k)
+          let near : middle s half + 2 * 2 ^ (h - 1) ≤ 2 ^ 34 = omega (arith, half-is, half-bounds) in
+          (omega (arith, f .fits .0), omega (arith, f .fits .1), omega (arith, half-is, rest-few), near, k)
 
-      right-each : (bs : List ℕ) → Each 32 (itemsFrom digestOf bs (h - 1) (n - half) (i - half) (s + (2 * half - 1)))
+      right-each : (bs : List ℕ) → Each 32 (itemsFrom digestOf bs (h - 1) (n - half) (i - half) (middle s half))
       right-each bs =
-          from-each digestOf bs digest-length (h - 1) (n - half) (i - half) (s + (2 * half - 1)) (omega (arith, f .fits .1)) (omega (arith, half-is, rest-few))
+          from-each digestOf bs digest-length (h - 1) (n - half) (i - half) (middle s half)
+          (omega (arith, f .fits .1)) (omega (arith, half-is, rest-few))
 
       -- within a peak
       module _ (z : n - half ≡ half) where
-        within-same : positionsIn (suc h) n i s
-            ≡ positionsIn (suc (h - 1)) (n - half) (i - half) (s + (2 * half - 1)) ++ (alone (s + (2 * half - 1) - 1) ∷ [])
+        within-same : positionsIn (suc h) n i s ≡ toRight h n i s half ++ (alone (middle s half - 1) ∷ [])
         within-same =
             positions-at (positions-right (h - 1) n i s (omega (arith, pow-suc 2 (h - 1), half-is)) (omega (arith, half-is)) (f .fits .1))
             ∙ ap₂ {C = List (List ℕ)} (λ (x y : ℕ). positionsIn (suc (h - 1)) (n - x) (i - x) y ++ (alone (top (h - 1) s) ∷ [])) (sym half-is) mid-is
-            ∙ ap {B = List (List ℕ)} (λ (x : ℕ). positionsIn (suc (h - 1)) (n - half) (i - half) (s + (2 * half - 1)) ++ (alone x ∷ [])) top-is
+            ∙ ap {B = List (List ℕ)} (λ (x : ℕ). toRight h n i s half ++ (alone x ∷ [])) top-is
 
-        pub within-room : Room (h - 1) (n - half) (i - half) (s + (2 * half - 1)) at room
+        pub within-room : Room (h - 1) (n - half) (i - half) (middle s half) at room
         within-room =
-            let ps : List (List ℕ) = positionsIn (suc (h - 1)) (n - half) (i - half) (s + (2 * half - 1)) in
-            right-room at (omega (arith, ap length within-same ∙ length-append ps (alone (s + (2 * half - 1) - 1) ∷ []), f .fits .4))
+            right-room at (omega (arith, ap length within-same ∙ length-append (toRight h n i s half) (alone (middle s half - 1) ∷ []), f .fits .4))
 
         pub within-put : (bs d : List ℕ) {next : ℕ} {side before last : List ℕ} → length d ≡ room
-            → Put bs (h - 1) (n - half) (i - half) (s + (2 * half - 1)) at d next before
-            → side ≡ nodeIn bs (s + (2 * half - 1) - 1) → last ≡ written next side before → Put bs h n i s at d (next + 32) last
+            → Put bs (h - 1) (n - half) (i - half) (middle s half) at d next before
+            → side ≡ nodeIn bs (middle s half - 1) → last ≡ written next side before → Put bs h n i s at d (next + 32) last
         within-put bs d long p es el =
-            put-behind bs d (positionsIn (suc (h - 1)) (n - half) (i - half) (s + (2 * half - 1))) (alone (s + (2 * half - 1) - 1)) long within-same
-            (right-each bs) (ap length es ∙ node-length bs (s + (2 * half - 1) - 1)) (p .0) (p .1) es el
+            put-behind bs d (toRight h n i s half) (alone (middle s half - 1)) long within-same
+            (right-each bs) (ap length es ∙ node-length bs (middle s half - 1)) (p .0) (p .1) es el
 
       -- past a peak
       module _ (z : n - half ≡ half → ⊥) where
-        past-same : positionsIn (suc h) n i s
-            ≡ alone (s + (2 * half - 1) - 1) ∷ positionsIn (suc (h - 1)) (n - half) (i - half) (s + (2 * half - 1))
+        past-same : positionsIn (suc h) n i s ≡ alone (middle s half - 1) ∷ toRight h n i s half
         past-same =
             positions-at (positions-past (h - 1) n i s (omega (arith, half-is)) (past-fewer (rest-few .0)) (omega (arith, half-is)))
             ∙ ap₂ {C = List (List ℕ)} (λ (x y : ℕ). alone (top (h - 1) s) ∷ positionsIn (suc (h - 1)) (n - x) (i - x) y) (sym half-is) mid-is
-            ∙ ap {B = List (List ℕ)} (λ (x : ℕ). alone x ∷ positionsIn (suc (h - 1)) (n - half) (i - half) (s + (2 * half - 1))) top-is
+            ∙ ap {B = List (List ℕ)} (λ (x : ℕ). alone x ∷ toRight h n i s half) top-is
           where
             past-fewer : n - half ≤ half → n < 2 ^ suc (h - 1)
             past-fewer k = omega (arith, pow-suc 2 (h - 1), half-is, z)
 
+        pub past-next : at + 32 ≤ room
+        past-next = omega (arith, ap length past-same, f .fits .4)
+
         -- the peak is written
-        peak-fits : (bs d : List ℕ) {side before : List ℕ} → length d ≡ room → side ≡ nodeIn bs (s + (2 * half - 1) - 1) → before ≡ written at side d
+        peak-fits : (bs d : List ℕ) {side before : List ℕ} → length d ≡ room → side ≡ nodeIn bs (middle s half - 1) → before ≡ written at side d
             → (length side ≡ 32) × (before ≡ splice at side d) × (length before ≡ room)
         peak-fits bs d {side} long es eb =
-            let k : length side ≡ 32 = ap length es ∙ node-length bs (s + (2 * half - 1) - 1) in
-            let r : at + length side ≤ length d = omega (arith, ap length past-same, f .fits .4) in
+            let k : length side ≡ 32 = ap length es ∙ node-length bs (middle s half - 1) in
+            let r : at + length side ≤ length d = omega (arith, past-next) in
             let w = eb ∙ written-fits at side d r in
             (k, w, ap length w ∙ splice-length at side d r ∙ long)
 
-        pub past-room : (bs d : List ℕ) {side before : List ℕ} → length d ≡ room → side ≡ nodeIn bs (s + (2 * half - 1) - 1)
-            → before ≡ written at side d → Room (h - 1) (n - half) (i - half) (s + (2 * half - 1)) (at + 32) (length before)
+        pub past-room : (bs d : List ℕ) {side before : List ℕ} → length d ≡ room → side ≡ nodeIn bs (middle s half - 1)
+            → before ≡ written at side d → Room (h - 1) (n - half) (i - half) (middle s half) (at + 32) (length before)
         past-room bs d long es eb = rw (peak-fits bs d long es eb .2) (right-room (at + 32) (omega (arith, ap length past-same, f .fits .4)))
 
-        pub past-put : (bs d : List ℕ) {next : ℕ} {side before last : List ℕ} → length d ≡ room → side ≡ nodeIn bs (s + (2 * half - 1) - 1)
-            → before ≡ written at side d → Put bs (h - 1) (n - half) (i - half) (s + (2 * half - 1)) (at + 32) before next last
+        pub past-put : (bs d : List ℕ) {next : ℕ} {side before last : List ℕ} → length d ≡ room → side ≡ nodeIn bs (middle s half - 1)
+            → before ≡ written at side d → Put bs (h - 1) (n - half) (i - half) (middle s half) (at + 32) before next last
             → Put bs h n i s at d next last
         past-put bs d {side = side} {before = before} long es eb p =
             let read : List ℕ → List ℕ = fold digestOf (nodeIn bs) in
-            let ps : List (List ℕ) = positionsIn (suc (h - 1)) (n - half) (i - half) (s + (2 * half - 1)) in
+            let ps : List (List ℕ) = toRight h n i s half in
             let ys : List ℕ = joined (map read ps) in
             let k = peak-fits bs d long es eb in
             let m : length ys ≡ 32 * length ps = joined-length (map read ps) (right-each bs) ∙ ap (λ (x : ℕ). 32 * x) (length-map ps read) in
@@ -210,6 +223,7 @@ module _ {h n i s at room half : ℕ} (f : Above h n i s at room half) where
               p .1
                   ∙ ap₂ (λ (x : ℕ) (l : List ℕ). splice x ys l) b (k .1)
                   ∙ splice-splice at side ys d r
-                  ∙ ap (λ (x : List ℕ). splice at x d) (ap (λ (x : List ℕ). x ++ ys) es ∙ sym (joined-cons (nodeIn bs (s + (2 * half - 1) - 1)) (map read ps)))
+                  ∙ ap (λ (x : List ℕ). splice at x d)
+                  (ap (λ (x : List ℕ). x ++ ys) es ∙ sym (joined-cons (nodeIn bs (middle s half - 1)) (map read ps)))
                   ∙ ap (λ (x : List (List ℕ)). splice at (joined (map read x)) d) (sym past-same),
             )

@@ -29,14 +29,15 @@ items-32 k letter = digests-each (20 + statedIn letter) k letter
 
 module _ (size index : ℕ) (rec : List ℕ) (items : List (List ℕ)) where
   -- what stands before the record
-  head-length : length (be 8 size ++ be 8 index ++ be 4 (length rec)) ≡ 20
+  pub head-length : length (be 8 size ++ be 8 index ++ be 4 (length rec)) ≡ 20
   head-length = simp (length-append, be-length)
 
-  pub letter-length : Each 32 items → length (letterBytes size index rec items) ≡ 20 + length rec + 32 * length items
+  pub letter-bytes : length (letterBytes size index rec items) ≡ 20 + length rec + length (joined items)
   unfolding letterBytes
-  letter-length p =
-      length-append (be 8 size ++ be 8 index ++ be 4 (length rec) ++ rec) (joined items)
-      ∙ ap₂ (λ (a b : ℕ). a + b) (length-append (be 8 size ++ be 8 index ++ be 4 (length rec)) rec ∙ rw head-length) (joined-length items p)
+  letter-bytes = rw (length-append, length-append, head-length)
+
+  pub letter-length : Each 32 items → length (letterBytes size index rec items) ≡ 20 + length rec + 32 * length items
+  letter-length p = letter-bytes ∙ ap (λ (k : ℕ). 20 + length rec + k) (joined-length items p)
 
   pub size-read : size < 256 ^ 8 → sizeIn (letterBytes size index rec items) ≡ size
   unfolding letterBytes sizeIn

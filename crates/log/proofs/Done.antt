@@ -60,6 +60,7 @@ module _ {size n m : ℕ} (rec bs : List ℕ) (k : Counts size n) (e : m ≡ tra
       let t : r .count ≡ hashCount (leaves size) = c ∙ ap (λ (x : ℕ). 1 + x) (e ∙ ap trailingOnes (sym (k .value))) in
       λ i. record { number = a i; size = s i; count = t i; bytes = d i }
 
+-- the peaks folded
 pub root-done : {size n : ℕ} (bs : List ℕ) → Counts size n → 0 < n → {r : Rooted} → r .number ≡ 0 → r .digest .bytes ≡ foldFrom digestOf bs n 0
     → rooted r ≡ rootDone size bs
 unfolding rootDone peaks

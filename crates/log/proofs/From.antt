@@ -37,6 +37,8 @@ module _ (digest : List ℕ → List ℕ) (bs : List ℕ) (n s : ℕ) where
   from-beyond h =
       by-cases (decLt 0 n)
       (λ a. by-cases (decLe n (2 ^ 32))
-      (λ b. rw (lt-ltb 0 n a, le-leb n (2 ^ 32) b, lt-leb s (2 ^ 34) (by-cases (decLt (2 ^ 34) s) (λ c. c) (λ c. absurd (h a b (omega arith)))), foldFrom))
+      (λ b.
+      let far : 2 ^ 34 < s = by-cases (decLt (2 ^ 34) s) (λ c. c) (λ c. absurd (h a b (omega arith))) in
+      rw (lt-ltb 0 n a, le-leb n (2 ^ 32) b, lt-leb s (2 ^ 34) far, foldFrom))
       (λ b. rw (lt-ltb 0 n a, lt-leb n (2 ^ 32) (omega arith), foldFrom)))
       (λ a. rw (le-ltb 0 n (omega arith), foldFrom))

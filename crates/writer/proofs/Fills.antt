@@ -1,7 +1,7 @@
 -- Fields that are written one after the other fill the first bytes of the output buffer with the letter.
-use mathlib.Core.Path.{_≡_, refl, sym, ap, _∙_}
+use mathlib.Core.Path.{_≡_, sym, ap, _∙_}
 use mathlib.Core.List.{List, [], _++_}
-use Prim.Native.Nat.{ℕ, _+_, _*_, _^_, _≤_, _<_}
+use Prim.Native.Nat.{ℕ, _+_, _*_, _≤_, _<_}
 use native.Mathlib.Omega.{arith}
 use lib.ListN.{length, length-append}
 use Rattle.digest.specs.Digest.{digestOf, digest-length}
@@ -18,6 +18,7 @@ use Rattle.log.proofs.Counting.{Counts}
 use Rattle.letter.specs.Bytes.{letterBytes}
 use Rattle.letter.specs.Items.{itemCount, itemsOf}
 use Rattle.letter.proofs.ItemsOf.{items-bytes}
+use Rattle.letter.proofs.Spelling.{head-length, letter-bytes}
 use Rattle.writer.specs.Outcome.{ourLetter}
 
 -- a refusal, whatever the output buffer holds
@@ -25,14 +26,6 @@ pub refused-is : {r : Written} {number : ℕ} (out : List ℕ) → wrote r [] �
 refused-is out e = ap (λ (o : WriteOutcome). record { number = o .number; length = o .length; bytes = out }) e
 
 module _ (size index : ℕ) (rec : List ℕ) (items : List (List ℕ)) where
-  -- size, index and record length
-  head-length : length (be 8 size ++ be 8 index ++ be 4 (length rec)) ≡ 20
-  head-length = rw (length-append, length-append, be-length 8 size, be-length 8 index, be-length 4 (length rec))
-
-  pub letter-length : length (letterBytes size index rec items) ≡ 20 + length rec + length (joined items)
-  unfolding letterBytes
-  letter-length = rw (length-append, length-append, head-length)
-
   pub letter-filled : (out : List ℕ) {l₁ l₂ l₃ l₄ l₅ : List ℕ} → 20 + length rec + length (joined items) ≤ length out
       → l₁ ≡ written 0 (be 8 size) out → l₂ ≡ written 8 (be 8 index) l₁ → l₃ ≡ written 16 (be 4 (length rec)) l₂
       → l₄ ≡ written 20 rec l₃ → l₅ ≡ written (20 + length rec) (joined items) l₄ → l₅ ≡ splice 0 (letterBytes size index rec items) out
@@ -45,7 +38,7 @@ module _ (size index : ℕ) (rec : List ℕ) (items : List (List ℕ)) where
       let nb : length b ≡ 8 = be-length 8 index in
       let nc : length c ≡ 4 = be-length 4 (length rec) in
       let nab : length (a ++ b) ≡ 16 = rw length-append (omega arith) in
-      let nabc : length (a ++ b ++ c) ≡ 20 = head-length in
+      let nabc : length (a ++ b ++ c) ≡ 20 = head-length size index rec items in
       let nr : length (a ++ b ++ c ++ rec) ≡ 20 + length rec = rw length-append (omega arith) in
       let f₁ : l₁ ≡ splice 0 a out = e₁ ∙ written-fits 0 a out (omega arith) in
       let f₂ : l₂ ≡ splice 0 (a ++ b) out = e₂ ∙ written-next 0 8 a b out l₁ f₁ (omega arith) (omega arith) in
@@ -58,7 +51,7 @@ module _ {size n : ℕ} (index : ℕ) (rec bs : List ℕ) (k : Counts size n) (h
   pub our-length : length (ourLetter digestOf size index rec bs) ≡ 20 + length rec + 32 * itemCount n index
   unfolding ourLetter
   our-length =
-      letter-length size index rec (itemsOf digestOf bs (leaves size) index)
+      letter-bytes size index rec (itemsOf digestOf bs (leaves size) index)
       ∙ ap (λ (m : ℕ). 20 + length rec + length (joined (itemsOf digestOf bs m index))) (k .value)
       ∙ ap (λ (m : ℕ). 20 + length rec + m) (items-bytes digestOf bs digest-length n index h (k .most))
 

@@ -39,8 +39,8 @@ returns-4 : tie.Need-returns-4
 unfolding rootOutcome rootOrder
 returns-4 c =
     let k = known (c .before .before .before) in
-    passes _ _ _
-    (root-done (c .before .before .before .before .before .before .before .before .args .nodes .now) k (omega arith) refl (c .fold-from .ensures)) (search needs)
+    let a = c .before .before .before .before .before .before .before .before .args in
+    passes _ _ _ (root-done (a .nodes .now) k (omega arith) refl (c .fold-from .ensures)) (search needs)
 
 pub root-spec : {M : Type 1} → statement M
 root-spec =

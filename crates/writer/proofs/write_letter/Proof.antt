@@ -103,7 +103,8 @@ returns-8 c =
     let e = counted items in
     let l = our-length (a .index) (a .rec .now) (a .nodes .now) k (below .if1 .left) in
     passes _ _ _
-    (letter-done (a .index) (a .rec .now) (a .nodes .now) k (below .if1 .left) (a .out .now) _ (omega (arith, items .item-count .ensures)) (omega arith)
+    (letter-done (a .index) (a .rec .now) (a .nodes .now) k (below .if1 .left) (a .out .now) _
+    (omega (arith, items .item-count .ensures)) (omega arith)
     (first .write8 .ensures) (second .write82 .ensures) (third .write4 .ensures) (fourth .write-run .ensures) (fifth .write-items .ensures))
     (search needs)
 

@@ -43,7 +43,8 @@ returns-3 c =
     let h = c .before .before .before in
     let a = h .before .before .before .before .before .before .before .before .before .args in
     let k = known (h .before .before .before .before) in
-    written-all (a .nodes .now) (a .d .now) (a .at) (a .n) (a .i) (k .0) (k .1) (h .height .result) (h .height .ensures) (fits h) (c .before .before .put-items .ensures)
+    written-all (a .nodes .now) (a .d .now) (a .at) (a .n) (a .i) (k .0) (k .1) (h .height .result) (h .height .ensures) (fits h)
+    (c .before .before .put-items .ensures)
 
 pub write-items-spec : {M : Type 1} → statement M
 write-items-spec =
