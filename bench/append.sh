@@ -9,10 +9,5 @@ set -eu
 . "$(dirname "$0")/count.sh"
 find_sources
 find_compilers
-# The two archives have names in common: of the digest's only its two calls stay visible.
-static_library digest_c
-"${prefix}ld" -r -o "$work/digest-all.o" --whole-archive "$archive"
-"${prefix}objcopy" --keep-global-symbol=digest_c_of --keep-global-symbol=digest_c_pair "$work/digest-all.o" "$work/digest.o"
-static_library keeper
-counted "$work/append" -I"$top/include" -I"$top/crates/digest_c" "$here/append.c" "$work/digest.o" "$archive"
-awk -F '\t' -f "$here/append.awk" "$work/times" "$work/measured"
+counted_by_both "$work/append" "$here/append.c"
+table append

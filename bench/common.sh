@@ -1,7 +1,7 @@
-# What the scripts of this folder share: the repository, the kit, the tools for x86-64 and the packages that bring them.
+# What the scripts of this folder and of hosts/ share: the repository, the kit, the tools for x86-64 and the packages that bring them.
 # shellcheck shell=sh disable=SC2034
 
-say() { echo "bench: $*" >&2; }
+say() { echo "$(basename "$0"): $*" >&2; }
 die() { say "$*"; exit 2; }
 
 top=$(cd "$(dirname "$0")/.." && pwd -P)

@@ -1,4 +1,4 @@
-# What digest.sh and append.sh share beside common.sh: BLAKE3's portable C by two compilers, and the counting of a program's calls.
+# What the counting scripts share beside common.sh: BLAKE3's portable C by two compilers, and the counting of a program's calls.
 # shellcheck shell=sh disable=SC2034,SC2154
 here=$top/bench
 flags='-O3 -march=x86-64 -DBLAKE3_NO_SSE2 -DBLAKE3_NO_SSE41 -DBLAKE3_NO_AVX2 -DBLAKE3_NO_AVX512'
@@ -76,24 +76,44 @@ count_by_emulator() {
     how="counted by the kit's emulator"
 }
 
-# counted PROGRAM ARGUMENT..: compiles the program from the arguments and both compilers' BLAKE3, and counts its calls
-counted() {
+# measured PROGRAM ARGUMENT..: compiles the program from the arguments, and counts its calls
+measured() {
     program=$1
     shift
-    theirs gcc "$gcc"
-    # shellcheck disable=SC2086
-    theirs clang "$clang" --target=x86_64-linux-gnu -nostdinc $headers
     marks=
     if [ "$machine" = x86_64 ]; then
         need_command valgrind valgrind
         marks=-DCALLGRIND
     fi
     # shellcheck disable=SC2086
-    "$gcc" -O2 -static $marks -I"$here" "$@" "$work/gcc.o" "$work/clang.o" -o "$program"
+    "$gcc" -O2 -static $marks -I"$here" "$@" -o "$program"
     if [ "$machine" = x86_64 ]; then count_by_valgrind "$program"; else count_by_emulator "$program"; fi
     echo "Executed instructions, $how, and nanoseconds where they are measured."
+    paste "$work/names" "$work/counts" >"$work/measured"
+}
+
+# counted PROGRAM ARGUMENT..: the same with both compilers' BLAKE3
+counted() {
+    theirs gcc "$gcc"
+    # shellcheck disable=SC2086
+    theirs clang "$clang" --target=x86_64-linux-gnu -nostdinc $headers
+    measured "$@" "$work/gcc.o" "$work/clang.o"
     echo "C: $version, portable, -O3 -march=x86-64."
     echo "gcc: $($gcc --version | head -n 1)"
     echo "clang: $($clang --version | head -n 1), the kit's"
-    paste "$work/names" "$work/counts" >"$work/measured"
+}
+
+# counted_by_both PROGRAM SOURCE: a program that calls the keeper and the digest alone. The two archives have names in common: of the
+# digest's only its two calls stay visible.
+counted_by_both() {
+    static_library digest_c
+    "${prefix}ld" -r -o "$work/digest-all.o" --whole-archive "$archive"
+    "${prefix}objcopy" --keep-global-symbol=digest_c_of --keep-global-symbol=digest_c_pair "$work/digest-all.o" "$work/digest.o"
+    static_library keeper
+    counted "$1" -I"$top/include" -I"$top/crates/digest_c" "$2" "$work/digest.o" "$archive"
+}
+
+# table NAME: the table of what was counted, and the limits
+table() {
+    awk -F '\t' -f "$here/reads.awk" -f "$here/$1.awk" "$work/times" "$work/measured"
 }

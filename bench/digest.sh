@@ -13,4 +13,4 @@ find_sources
 find_compilers
 static_library digest_c
 counted "$work/digest" -I"$top/crates/digest_c" "$here/digest.c" "$archive"
-awk -F '\t' -f "$here/table.awk" "$work/times" "$work/measured"
+table digest

@@ -18,16 +18,45 @@ enum {
     KEEPER_NO_SUCH_SIZE = 1,
     /* append at 2^32 leaves, or a count above 2^32: the log is full; begin another */
     KEEPER_TOO_MANY_LEAVES = 2,
-    /* record above 16,384 bytes: cut it, or log its digest */
+    /* record or stated record length above 16,384: cut the record, or log its digest; a letter or a node that states it is damaged */
     KEEPER_RECORD_TOO_LONG = 3,
     /* node buffer under 32 x size bytes (append: new size): lend more */
     KEEPER_NODES_TOO_SHORT = 4,
-    /* index not below 2^32: ask for a leaf that a log can have */
+    /* index not below the leaf count (position of a leaf alone: not below 2^32): ask for a leaf that the log has; a letter for it shows nothing */
     KEEPER_NO_SUCH_LEAF = 5,
-    /* output buffer too short: lend 32 bytes */
+    /* output buffer too short: lend as many bytes as stand at the call */
     KEEPER_OUTPUT_TOO_SHORT = 6,
+    /* letter under 20 bytes, or not of its exact length: it was cut, or something was put behind it; ask for it again */
+    KEEPER_NOT_A_LETTER = 7,
+    /* letter names another size: it is about another state of the log; ask for one of the size that is trusted */
+    KEEPER_OTHER_SIZE = 8,
+    /* root worked out from the letter differs: the letter shows nothing about this log, and its record is not to be taken for the logged one */
+    KEEPER_OTHER_ROOT = 9,
     /* root of an empty log: append a record first */
-    KEEPER_EMPTY_LOG = 10
+    KEEPER_EMPTY_LOG = 10,
+    /* stored node with unknown flag or wrong length: the bytes are damaged; take them from a copy */
+    KEEPER_NOT_A_NODE = 11,
+    /* trusted root, or the digest of an inner node, not 32 bytes: lend the 32 */
+    KEEPER_NOT_A_DIGEST = 12,
+    /* record's digest isn't the leaf at its place: this is not the record that was logged at the index */
+    KEEPER_OTHER_RECORD = 13,
+    /* finder: a node on the path, within its peak, isn't the digest of its two children: the nodes are damaged; take them from a copy */
+    KEEPER_DAMAGED_NODES = 14,
+    /* more than 32 items needed: no index of a log does, and no call answers it */
+    KEEPER_TOO_MANY_ITEMS = 15
+};
+
+/* The kinds of a stored node. */
+enum {
+    KEEPER_INNER = 0,
+    KEEPER_LEAF = 1
+};
+
+/* What the finder finds. */
+enum {
+    KEEPER_SAME = 1,
+    KEEPER_RECORDS = 2,
+    KEEPER_PAIR = 3
 };
 
 /* The digest, BLAKE3's plain hash of 32 bytes, of any bytes, into the first 32 bytes of out. 6. */
@@ -50,6 +79,39 @@ uint32_t keeper_append(uint64_t size, const uint8_t *record, size_t record_len, 
 
 /* The root, into the first 32 bytes of out: the rightmost peak, folded leftward. 1, 10, 4, 6. */
 uint32_t keeper_root(uint64_t size, const uint8_t *nodes, size_t nodes_len, uint8_t *out, size_t out_len);
+
+/* A stored leaf, into the first bytes of out: byte 01, digest, record length (4 bytes, big-endian), record. The digest is worked out from the
+   record. length is how many bytes were written, 37 + record_len. 3, 6. */
+uint32_t keeper_store_leaf(const uint8_t *record, size_t record_len, uint8_t *out, size_t out_len, size_t *length);
+
+/* A stored inner node, into the first bytes of out: byte 00, digest. length is how many bytes were written, 33. 12, 6. */
+uint32_t keeper_store_inner(const uint8_t *digest, size_t digest_len, uint8_t *out, size_t out_len, size_t *length);
+
+/* A stored node, read: its kind, KEEPER_INNER or KEEPER_LEAF; its digest, taken as it stands, into the first 32 bytes of digest_out; its record,
+   which is the record_len bytes from bytes + record_at on, none for an inner node. 11 (its form), 3, 11 (the exact length), 6. */
+uint32_t keeper_read_node(const uint8_t *bytes, size_t len, uint32_t *kind, uint8_t *digest_out, size_t digest_out_len, size_t *record_at,
+                          size_t *record_len);
+
+/* The letter of an index, into the first bytes of out: size (8), index (8), record length (4), all big-endian; record; items of 32 bytes. The
+   record is the one that was logged there, and nodes the log's. length is how many bytes were written, 20 + record_len + 32 for each item, of
+   which there are at most 32. 1, 5, 3, 4, 15, 13, 6. */
+uint32_t keeper_letter_write(uint64_t size, uint64_t index, const uint8_t *record, size_t record_len, const uint8_t *nodes, size_t nodes_len,
+                             uint8_t *out, size_t out_len, size_t *length);
+
+/* A letter, checked against a size and a root that the caller trusts: its index, and its record, which is the record_len bytes from
+   letter + record_at on. 1, 12, 7 (under 20 bytes), 8, 5, 15, 3, 7 (the exact length), 9. */
+uint32_t keeper_letter_check(uint64_t size, const uint8_t *root, size_t root_len, const uint8_t *letter, size_t letter_len,
+                             uint64_t *index, size_t *record_at, size_t *record_len);
+
+/* A letter compared with the log, where the log's own nodes accept it: record is the one that the log has at the letter's index. Compares, from the
+   root down, each 64-byte input of the log with that of the letter. At the first difference found is KEEPER_PAIR, with the log's input in the first
+   64 bytes of log_input and the letter's in those of letter_input: two different strings with one digest. With none it compares the records:
+   KEEPER_RECORDS if they differ (record and the letter's are then the two strings), else KEEPER_SAME. The buffers change only for KEEPER_PAIR.
+   1, 10, 4, then with the root of its own nodes 7 (under 20 bytes), 8, 5, 15, 3, 7 (the exact length), 9, then for record 3 and 13, then 14,
+   6 (either buffer under 64, whatever the outcome). */
+uint32_t keeper_find(uint64_t size, const uint8_t *nodes, size_t nodes_len, const uint8_t *record, size_t record_len, const uint8_t *letter,
+                     size_t letter_len, uint8_t *log_input, size_t log_input_len, uint8_t *letter_input, size_t letter_input_len,
+                     uint32_t *found);
 
 #ifdef __cplusplus
 }

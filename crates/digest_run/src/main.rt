@@ -1,9 +1,10 @@
 // Digests at the edges of blocks, chunks and trees, and of pairs of digests, to be compared with the second program's.
-ghost use mathlib.Core.Path.{_≡_};
-ghost use Prim.Native.Nat.{ℕ, _<_, _%_};
-ghost use lib.ListN.{getD};
 use digest::Digest;
-use libc::STDOUT_FILENO;
+use runs::given;
+use runs::lines::say;
+use runs::lines::say_digest;
+use runs::lines::say_hex;
+use runs::lines::say_number;
 
 // The lengths that are digested.
 const LENGTHS: [usize; 20] = [
@@ -29,31 +30,11 @@ const LENGTHS: [usize; 20] = [
     100000,
 ];
 
-// Byte i is i mod 251.
-fn counting() -> [u8; 100000]
-    ensures { λ r. ⌜ ((k : ℕ) → k < 100000 → getD r k 0 ≡ k % 251) ⌝ }
-{
-    let mut out = [0u8; 100000];
-    for i in 0..100000 {
-        out[i] = (i % 251) as u8;
-    }
-    out
-}
-
-// A digest in hexadecimal, and the end of its line.
-fn show(d: Digest) {
-    let bytes = d.bytes;
-    io::write_all(STDOUT_FILENO, &hex::digits_of(bytes));
-    io::write_all(STDOUT_FILENO, b"\n");
-}
-
 // The line of the first n bytes of bytes.
-fn show_first(bytes: &[u8], n: usize) {
-    if n <= bytes.len() {
-        io::print_decimal(STDOUT_FILENO, n as u64);
-        io::write_all(STDOUT_FILENO, b" ");
-        show(digest::digest_of(&bytes[..n]));
-    }
+fn show_first(bytes: &[u8; 100000], n: usize) {
+    say_number(b"", n as u64);
+    say_digest(b" ", given::front(bytes, n));
+    say(b"\n");
 }
 
 // A line for each length.
@@ -66,8 +47,10 @@ fn show_lengths(bytes: &[u8; 100000]) {
 
 // The line of two digests, after its label.
 fn show_pair(label: &[u8], left: Digest, right: Digest) {
-    io::write_all(STDOUT_FILENO, label);
-    show(digest::digest_of_pair(left, right));
+    let d = digest::digest_of_pair(left, right);
+    let bytes = d.bytes;
+    say_hex(label, bytes);
+    say(b"\n");
 }
 
 // A line for each pair of the digests of no byte and of the byte 0.
@@ -80,7 +63,8 @@ fn show_pairs() {
 }
 
 fn main() {
-    let bytes = counting();
+    let mut bytes = [0u8; 100000];
+    given::fill(0, &mut bytes);
     show_lengths(&bytes);
     show_pairs();
 }

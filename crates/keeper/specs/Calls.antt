@@ -8,6 +8,7 @@ use Rattle.digest.specs.Digest.{digestOf}
 use Rattle.order.specs.Order.{Refusal, _if_, _under_, verdict}
 use Rattle.shape.specs.Answers.{Answer}
 use Rattle.wire.specs.Runs.{splice}
+use Rattle.wire.specs.Writers.{WriteOutcome, writeDone}
 use Rattle.log.specs.Outcomes.{AppendOutcome, appendOrder, appendDone, rootOrder, rootDone}
 
 -- ---- Sizes, positions, counts
@@ -57,3 +58,13 @@ digestCall bs out = verdict (unfilled out) (outOrder out) (filled 0 (splice 0 (d
 unfoldable pub rootCall : ℕ → List ℕ → List ℕ → Filled
 rootCall size bs out =
     verdict (unfilled out) (rootOrder size bs ++ outOrder out) (filled 0 (splice 0 (rootDone size bs .digest) out))
+
+-- ---- A writer
+
+-- 01's number, the length behind its pointer, and the output buffer, at return
+abbrev pub writeLeft : ℕ → ℕ → List ℕ → WriteOutcome
+writeLeft number length bs = record { number = number; length = length; bytes = bs }
+
+-- one that fills the first bytes of the output with bs; the length variable held `old`
+abbrev pub writeCall : List Refusal → List ℕ → List ℕ → ℕ → WriteOutcome
+writeCall order bs out old = verdict (λ number. writeLeft number old out) order (writeDone bs out)

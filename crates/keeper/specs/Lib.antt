@@ -1,2 +1,5 @@
 -- What the calls for C answer and leave behind their pointers.
 pub mod Calls
+pub mod Nodes
+pub mod Letters
+pub mod Finder

@@ -2,10 +2,16 @@
 // every result variable as it was.
 ghost use mathlib.Core.Path.{_≡_};
 ghost use Rattle.shape.specs.Sizes.{sizeAnswer, positionAnswer, countAnswer};
-ghost use Rattle.keeper.specs.Calls.{answered, over, appendLeft, appendCall, filled, digestCall, rootCall};
+ghost use Rattle.keeper.specs.Calls.{answered, over, appendLeft, appendCall, filled, digestCall, rootCall, writeLeft};
+ghost use Rattle.keeper.specs.Nodes.{storeLeafCall, storeInnerCall, readLeft, readCall};
+ghost use Rattle.keeper.specs.Letters.{letterWriteCall, checkLeft, letterCheckCall};
+ghost use Rattle.finder.specs.Outcome.{answerOf};
+ghost use Rattle.keeper.specs.Finder.{answerNumber, findLeft, findCall};
+use finder::Finding;
 use shape::Counted;
 use shape::Placed;
 use shape::Sized;
+use stored::Node;
 
 // The digest of bytes, into the first 32 bytes of out.
 #[no_mangle]
@@ -96,5 +102,153 @@ pub extern "C" fn keeper_root(size: u64, nodes: &[u8], out: &mut [u8]) -> u32
     let d = r.digest;
     let b = d.bytes;
     wire::write_digest(out, 0, b);
+    0
+}
+
+// The stored leaf of a record, into the first bytes of out.
+#[no_mangle]
+pub extern "C" fn keeper_store_leaf(rec: &[u8], out: &mut [u8], length: &mut usize) -> u32
+    ensures { λ r. ⌜ writeLeft r (now (length .exit)) (now (out .exit))
+        ≡ storeLeafCall (now (rec .entry)) (now (out .entry)) (now (length .entry)) ⌝ }
+{
+    let w = stored::write_leaf(rec, out);
+    if w.number != 0 {
+        return w.number;
+    }
+    *length = w.length;
+    0
+}
+
+// The stored inner node of a digest, into the first bytes of out.
+#[no_mangle]
+pub extern "C" fn keeper_store_inner(digest: &[u8], out: &mut [u8], length: &mut usize) -> u32
+    ensures { λ r. ⌜ writeLeft r (now (length .exit)) (now (out .exit))
+        ≡ storeInnerCall (now (digest .entry)) (now (out .entry)) (now (length .entry)) ⌝ }
+{
+    if digest.len() != 32 {
+        return 12;
+    }
+    let w = stored::write_inner(wire::read_digest(digest, 0), out);
+    if w.number != 0 {
+        return w.number;
+    }
+    *length = w.length;
+    0
+}
+
+// A stored node read: its kind, its digest into the first 32 bytes of out, and where in the bytes its record lies.
+#[no_mangle]
+pub extern "C" fn keeper_read_node(
+    bytes: &[u8],
+    kind: &mut u32,
+    out: &mut [u8],
+    record_at: &mut usize,
+    record_len: &mut usize,
+) -> u32
+    ensures { λ r. ⌜ readLeft r (now (kind .exit)) (now (out .exit)) (now («record_at» .exit)) (now («record_len» .exit))
+        ≡ readCall (now (bytes .entry)) (now (kind .entry)) (now (out .entry)) (now («record_at» .entry)) (now («record_len» .entry)) ⌝ }
+{
+    let reading = stored::read_node(bytes);
+    let number = stored::number_of(reading);
+    if number != 0 {
+        return number;
+    }
+    if out.len() < 32 {
+        return 6;
+    }
+    let digest = reading.digest;
+    wire::write_digest(out, 0, digest);
+    let node = reading.node;
+    let Node::Leaf(length) = node else {
+        *kind = 0;
+        *record_at = 0;
+        *record_len = 0;
+        return 0;
+    };
+    *kind = 1;
+    *record_at = 37;
+    *record_len = length;
+    0
+}
+
+// The letter of an index, into the first bytes of out.
+#[no_mangle]
+pub extern "C" fn keeper_letter_write(
+    size: u64,
+    index: u64,
+    rec: &[u8],
+    nodes: &[u8],
+    out: &mut [u8],
+    length: &mut usize,
+) -> u32
+    ensures { λ r. ⌜ writeLeft r (now (length .exit)) (now (out .exit))
+        ≡ letterWriteCall size index (now (rec .entry)) (now (nodes .entry)) (now (out .entry)) (now (length .entry)) ⌝ }
+{
+    let w = writer::write_letter(size, index, rec, nodes, out);
+    if w.number != 0 {
+        return w.number;
+    }
+    *length = w.length;
+    0
+}
+
+// A letter checked against a trusted size and root: its index, and where in it its record lies.
+#[no_mangle]
+pub extern "C" fn keeper_letter_check(
+    size: u64,
+    root: &[u8],
+    letter: &[u8],
+    index: &mut u64,
+    record_at: &mut usize,
+    record_len: &mut usize,
+) -> u32
+    ensures { λ r. ⌜ checkLeft r (now (index .exit)) (now («record_at» .exit)) (now («record_len» .exit))
+        ≡ letterCheckCall size (now (root .entry)) (now (letter .entry))
+        (now (index .entry)) (now («record_at» .entry)) (now («record_len» .entry)) ⌝ }
+{
+    let c = checker::check(size, root, letter);
+    if c.number != 0 {
+        return c.number;
+    }
+    *index = c.index;
+    *record_at = c.start;
+    *record_len = c.length;
+    0
+}
+
+// What the finder finds, as C has it: 1 for "same", 2 for "records", 3 for "pair".
+fn number_of(finding: Finding) -> u32
+    ensures { λ r. ⌜ r ≡ answerNumber (answerOf finding) ⌝ }
+{
+    match finding {
+        Finding::Nothing => 0,
+        Finding::Same => 1,
+        Finding::Records => 2,
+        Finding::Pair => 3,
+    }
+}
+
+// A letter compared with the log's own nodes and the record that the log has there: what is found, and for a pair the log's input into the first 64 bytes
+// of one buffer, the letter's into those of the other.
+#[no_mangle]
+pub extern "C" fn keeper_find(
+    size: u64,
+    nodes: &[u8],
+    rec: &[u8],
+    letter: &[u8],
+    log_input: &mut [u8],
+    letter_input: &mut [u8],
+    found: &mut u32,
+) -> u32
+    ensures { λ r. ⌜ findLeft r (now (found .exit)) (now («log_input» .exit)) (now («letter_input» .exit))
+        ≡ findCall size (now (nodes .entry)) (now (rec .entry)) (now (letter .entry))
+        (now («log_input» .entry)) (now («letter_input» .entry)) (now (found .entry)) ⌝ }
+{
+    let f = finder::find(size, nodes, rec, letter, log_input, letter_input);
+    if f.number != 0 {
+        return f.number;
+    }
+    let finding = f.finding;
+    *found = number_of(finding);
     0
 }

@@ -1,17 +1,8 @@
-// What the log is given: records, buffers, and calls on their front parts.
+// What the log is given: buffers, and calls on their front parts.
 ghost use Prim.Native.Nat.{_≤_};
 use log::Appended;
 use log::Rooted;
-
-// Record i: byte j is (7i + j) mod 251.
-pub(crate) fn record_of(i: usize) -> [u8; 16385] {
-    let first = 7 * (i % 251);
-    let mut out = [0u8; 16385];
-    for j in 0..16385 {
-        out[j] = ((first + j) % 251) as u8;
-    }
-    out
-}
+use runs::given::front;
 
 // A buffer of 82 digests before any append: byte k is k times the step, mod 256.
 pub(crate) fn buffer_of(step: u8) -> [u8; 2624] {
@@ -50,13 +41,11 @@ pub(crate) fn append_lent(
     nodes: &mut [u8],
     lent: usize,
 ) -> Appended {
-    let end = least(n, rec.len());
     let room = least(lent, nodes.len());
-    log::append(size, &rec[..end], &mut nodes[..room])
+    log::append(size, front(rec, n), &mut nodes[..room])
 }
 
 // A root, where the first `lent` bytes of the buffer are lent.
 pub(crate) fn root_lent(size: u64, nodes: &[u8], lent: usize) -> Rooted {
-    let room = least(lent, nodes.len());
-    log::root(size, &nodes[..room])
+    log::root(size, front(nodes, lent))
 }

@@ -5,13 +5,13 @@ mod lines;
 use given::append_lent;
 use given::buffer_of;
 use given::edge_of;
-use given::record_of;
 use given::root_lent;
-use libc::STDOUT_FILENO;
 use lines::show_appended;
 use lines::show_digest;
-use lines::show_number;
 use lines::show_rooted;
+use runs::given::record_of;
+use runs::lines::say;
+use runs::lines::say_number;
 
 // The lengths of the records, over and over.
 const LENGTHS: [usize; 11] = [0, 1, 31, 32, 33, 63, 64, 65, 200, 1024, 16384];
@@ -34,8 +34,8 @@ fn append_next(size: u64, i: usize, n: usize, nodes: &mut [u8; 2624], shown: boo
     let rec = record_of(i);
     let a = append_lent(size, &rec, n, nodes, 2624);
     if shown {
-        show_number(b"append ", i as u64);
-        show_number(b", record of length ", n as u64);
+        say_number(b"append ", i as u64);
+        say_number(b", record of length ", n as u64);
         show_appended(b": ", a);
         show_state(a.size, nodes);
     }
@@ -60,10 +60,10 @@ fn show_whole(label: &[u8], nodes: &[u8; 2624]) {
 
 // One append, and the whole buffer before and after.
 fn try_append(size: u64, n: usize, lent: usize, nodes: &mut [u8; 2624]) {
-    show_number(b"size ", size);
-    show_number(b", record of length ", n as u64);
-    show_number(b", buffer of length ", lent as u64);
-    io::write_all(STDOUT_FILENO, b":\n");
+    say_number(b"size ", size);
+    say_number(b", record of length ", n as u64);
+    say_number(b", buffer of length ", lent as u64);
+    say(b":\n");
     show_whole(b"  before ", nodes);
     let rec = record_of(40);
     let a = append_lent(size, &rec, n, nodes, lent);
@@ -96,8 +96,8 @@ fn try_edges(nodes: &mut [u8; 2624]) {
 
 // One root.
 fn try_root(size: u64, lent: usize, nodes: &[u8; 2624]) {
-    show_number(b"root of size ", size);
-    show_number(b", buffer of length ", lent as u64);
+    say_number(b"root of size ", size);
+    say_number(b", buffer of length ", lent as u64);
     show_rooted(b": ", root_lent(size, nodes, lent));
 }
 
@@ -120,7 +120,7 @@ fn try_roots(nodes: &[u8; 2624]) {
 // The log over a buffer of counting bytes.
 fn first_buffer() {
     let mut nodes = buffer_of(1);
-    io::write_all(STDOUT_FILENO, b"empty:\n");
+    say(b"empty:\n");
     show_state(0, &nodes);
     run(&mut nodes, true);
     try_sizes(&mut nodes);
@@ -133,7 +133,7 @@ fn first_buffer() {
 fn other_buffer() {
     let mut nodes = buffer_of(3);
     let size = run(&mut nodes, false);
-    io::write_all(STDOUT_FILENO, b"over other bytes:\n");
+    say(b"over other bytes:\n");
     show_state(size, &nodes);
 }
 

@@ -7,7 +7,7 @@ use native.Mathlib.Nat.{suc-inj}
 use native.Mathlib.Omega.{arith}
 use lib.ListN.{length}
 use Rattle.shape.specs.Tree.{Each}
-use Rattle.shape.specs.Differ.{decided, whether, Diff, agree, pair, differ, differs, Shown}
+use Rattle.shape.specs.Differ.{decided, whether, Diff, agree, pair, differ, Shown}
 
 whether-yes : {P A : Type 0} (d : Dec P) (a b : A) → P → whether d a b ≡ a
 whether-yes (yes q) a b p = refl
@@ -16,14 +16,6 @@ whether-yes (no q) a b p = absurd (q p)
 whether-no : {P A : Type 0} (d : Dec P) (a b : A) → ¬ P → whether d a b ≡ b
 whether-no (yes q) a b p = absurd (p q)
 whether-no (no q) a b p = refl
-
-pub differs-same : (x y : List ℕ) → x ≡ y → differs x y ≡ 0
-unfolding differs
-differs-same x y e = whether-yes (decided x y) 0 1 e
-
-pub differs-other : (x y : List ℕ) → x ≢ y → differs x y ≡ 1
-unfolding differs
-differs-other x y e = whether-no (decided x y) 0 1 e
 
 pub differ-same : (x y : List ℕ) (xs ys : List (List ℕ)) → x ≡ y → differ (x ∷ xs) (y ∷ ys) ≡ differ xs ys
 unfolding differ

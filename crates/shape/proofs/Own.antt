@@ -7,6 +7,7 @@ use native.Mathlib.Decide.{decLe, decLt}
 use native.Mathlib.Omega.{arith}
 use lib.ListN.{length, length-drop, getD, take, drop}
 use lib.Seq.{take-at, getD-at, length-take-le}
+use Rattle.wire.proofs.Differences.{differ-same}
 use Rattle.shape.specs.Sizes.{heightOf}
 use Rattle.shape.specs.Tree.{Tree, tip, fork, Turn, left, right, past, root, inputs}
 use Rattle.shape.specs.Folded.{treeIn, tree}
@@ -15,7 +16,6 @@ use Rattle.shape.specs.Positions.{behind}
 use Rattle.shape.specs.Letter.{wayIn, way, Leads, here, to-left, to-right, to-past, fill, items}
 use Rattle.shape.specs.Seen.{sides, seenIn, seen, brokenIn, broken}
 use Rattle.shape.proofs.Heights.{height-holds}
-use Rattle.shape.proofs.Differs.{differs-same}
 use Rattle.shape.proofs.Letters.{items-length, complete}
 use Rattle.shape.proofs.Trees.{tree-low, tree-high}
 use Rattle.shape.proofs.Ways.{way-low, way-left, way-right, way-past, leads-in}
@@ -64,7 +64,7 @@ module _ (digest : List ℕ → List ℕ) where
     top-own : (h s : ℕ) (ds : List (List ℕ)) → 2 ^ h < length ds → length ds ≤ 2 ^ suc h → Holds node s (nodesIn digest (suc (suc h)) ds)
         → topDiffers digest node h (length ds) s ≡ 0
     top-own h s ds p q f =
-        differs-same _ _
+        differ-same _ _
         (root-in digest node (suc h) s ds (omega arith) q f ∙ rw (tree-high h ds p) (ap digest (sym (sides-own h s ds p q f))))
 
     -- a right turn, within a peak or past one

@@ -7,11 +7,11 @@ use native.Mathlib.Decide.{decLt}
 use native.Mathlib.Omega.{arith}
 use lib.Pow.{pow-pos}
 use borrow.Author.Tests.{le-leb, lt-leb, lt-ltb, le-ltb}
+use Rattle.wire.specs.Runs.{differ}
+use Rattle.wire.proofs.Differences.{differ-same}
 use Rattle.shape.specs.Positions.{top, behind, peaksIn, fold}
-use Rattle.shape.specs.Differ.{differs}
 use Rattle.shape.specs.Seen.{either, sides, seenIn, seen, brokenPeak, brokenIn, broken}
 use Rattle.shape.proofs.Heights.{any-height}
-use Rattle.shape.proofs.Differs.{differs-same}
 use Rattle.shape.proofs.Peaks.{peaks-full, peaks-more, peaks-some}
 use Rattle.shape.proofs.Reading.{fold-cons}
 
@@ -50,14 +50,14 @@ module _ (digest : List ℕ → List ℕ) (node : ℕ → List ℕ) where
 
   -- at a fork: 1 where what stands on top isn't the digest of the two sides, else 0. Above the peaks it is that digest
   abbrev pub topDiffers : ℕ → ℕ → ℕ → ℕ
-  topDiffers h n s = differs (fold digest node (peaksIn (suc (suc h)) n s)) (digest (sides digest node h n s))
+  topDiffers h n s = differ (fold digest node (peaksIn (suc (suc h)) n s)) (digest (sides digest node h n s))
 
   top-children : (h n s : ℕ) → n ≡ 2 ^ suc h
-      → topDiffers h n s ≡ differs (node (top (suc h) s)) (digest (node (top h s) ++ node (top h (behind h s))))
+      → topDiffers h n s ≡ differ (node (top (suc h) s)) (digest (node (top h s) ++ node (top h (behind h s))))
   top-children h n s e = rw (top-full h n s e, sides-full h n s e)
 
   top-agrees : (h n s : ℕ) → 2 ^ h < n → n < 2 ^ suc h → topDiffers h n s ≡ 0
-  top-agrees h n s p q = differs-same _ _ (top-fold h n s p q)
+  top-agrees h n s p q = differ-same _ _ (top-fold h n s p q)
 
   broken-skip : (k n i s : ℕ) → n < 2 ^ k → brokenIn digest node (suc k) n i s ≡ brokenIn digest node k n i s
   unfolding brokenIn

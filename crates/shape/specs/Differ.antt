@@ -14,10 +14,6 @@ abbrev pub whether : {P A : Type 0} → Dec P → A → A → A
 whether (yes p) a b = a
 whether (no p) a b = b
 
--- 1 where two strings differ, else 0
-unfoldable pub differs : List ℕ → List ℕ → ℕ
-differs x y = whether (decided x y) 0 1
-
 -- nothing differs; or the two strings that differ first
 pub data Diff : Type 0 where
   agree : Diff

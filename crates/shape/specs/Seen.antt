@@ -3,9 +3,9 @@ use mathlib.Core.Bool.{true, false}
 use mathlib.Core.List.{List, [], _∷_, _++_}
 use Prim.Native.Nat.{ℕ, zero, suc, _-_, _^_}
 use lib.Dec.{leb, ltb}
+use Rattle.wire.specs.Runs.{differ}
 use Rattle.shape.specs.Sizes.{heightOf}
 use Rattle.shape.specs.Positions.{top, behind, peaksIn, fold}
-use Rattle.shape.specs.Differ.{differs}
 
 -- 1 where one of two is, else 0
 abbrev pub either : ℕ → ℕ → ℕ
@@ -37,7 +37,7 @@ module _ (digest : List ℕ → List ℕ) (node : ℕ → List ℕ) where
   unfoldable pub brokenPeak : ℕ → ℕ → ℕ → ℕ
   brokenPeak zero i s = 0
   brokenPeak (suc h) i s =
-      let here = differs (node (top (suc h) s)) (digest (node (top h s) ++ node (top h (behind h s)))) in
+      let here = differ (node (top (suc h) s)) (digest (node (top h s) ++ node (top h (behind h s)))) in
       elim (ltb i (2 ^ h)) [
         | true ↦ either here (brokenPeak h i s)
         | false ↦ either here (brokenPeak h (i - 2 ^ h) (behind h s))

@@ -1,9 +1,12 @@
 // Stored nodes at 01's edges, written and read, to be compared with the second program's.
 ghost use mathlib.Core.Path.{_≡_};
-ghost use Prim.Native.Nat.{ℕ, _<_, _%_};
-ghost use lib.ListN.{getD};
 ghost use Rattle.stored.specs.Read.{readOutcome};
-use libc::STDOUT_FILENO;
+use runs::given;
+use runs::given::front;
+use runs::lines::say;
+use runs::lines::say_digest;
+use runs::lines::say_hex;
+use runs::lines::say_number;
 use stored::Node;
 use wire::Written;
 
@@ -28,46 +31,14 @@ fn leaf_length(bytes: &[u8]) -> Wanted
     Wanted { number: 0, length }
 }
 
-// Byte i is i mod 251: enough for a leaf whose record is one byte too long.
-fn counting() -> [u8; 16422]
-    ensures { λ r. ⌜ ((k : ℕ) → k < 16422 → getD r k 0 ≡ k % 251) ⌝ }
-{
+// Record 0, whose byte i is i mod 251: enough for a leaf whose record is one byte too long.
+fn counting() -> [u8; 16422] {
     let mut out = [0u8; 16422];
-    for i in 0..16422 {
-        out[i] = (i % 251) as u8;
-    }
+    given::fill(0, &mut out);
     out
 }
 
-// The first n bytes, or all where there are fewer.
-fn first<'a>(bytes: &'a [u8], n: usize) -> &'a [u8] {
-    if n <= bytes.len() {
-        return &bytes[..n];
-    }
-    bytes
-}
-
-// What is printed: words, and after a space each a number, 32 bytes, the digest of bytes, a kind.
-fn say(word: &[u8]) {
-    io::write_all(STDOUT_FILENO, word);
-}
-
-fn say_number(n: u64) {
-    say(b" ");
-    io::print_decimal(STDOUT_FILENO, n);
-}
-
-fn say_hex(bytes: [u8; 32]) {
-    say(b" ");
-    say(&hex::digits_of(bytes));
-}
-
-fn say_digest(bytes: &[u8]) {
-    let d = digest::digest_of(bytes);
-    let b = d.bytes;
-    say_hex(b);
-}
-
+// A kind, as it is printed.
 fn say_kind(node: Node) {
     match node {
         Node::Inner => say(b" inner"),
@@ -84,12 +55,12 @@ fn show_read(bytes: &[u8]) {
     let digest = reading.digest;
     let wanted = leaf_length(bytes);
     say(b"  read");
-    say_number(bytes.len() as u64);
-    say_number(wanted.number as u64);
+    say_number(b" ", bytes.len() as u64);
+    say_number(b" ", wanted.number as u64);
     say_kind(node);
-    say_hex(digest);
-    say_number(wanted.length as u64);
-    say_digest(stored::record_of(bytes));
+    say_hex(b" ", digest);
+    say_number(b" ", wanted.length as u64);
+    say_digest(b" ", stored::record_of(bytes));
     say(b"\n");
 }
 
@@ -97,37 +68,37 @@ fn show_read(bytes: &[u8]) {
 fn show_written(written: Written, out: &[u8]) {
     let number = written.number;
     let length = written.length;
-    say_number(number as u64);
-    say_number(length as u64);
-    say_digest(first(out, length));
-    say_digest(out);
+    say_number(b" ", number as u64);
+    say_number(b" ", length as u64);
+    say_digest(b" ", front(out, length));
+    say_digest(b" ", out);
     say(b"\n");
     if number == 0 {
-        show_read(first(out, length));
+        show_read(front(out, length));
     }
 }
 
 // A line on writing the leaf of a record: its length, the buffer's, the buffer's digest before.
 fn show_leaf(rec: &[u8], out: &mut [u8]) {
     say(b"leaf");
-    say_number(rec.len() as u64);
-    say_number(out.len() as u64);
-    say_digest(out);
+    say_number(b" ", rec.len() as u64);
+    say_number(b" ", out.len() as u64);
+    say_digest(b" ", out);
     show_written(stored::write_leaf(rec, out), out);
 }
 
 // The same for the first n bytes as the record, and the first room bytes as the buffer.
 fn try_leaf(bytes: &[u8], n: usize, out: &mut [u8], room: usize) {
     if room <= out.len() {
-        show_leaf(first(bytes, n), &mut out[..room]);
+        show_leaf(front(bytes, n), &mut out[..room]);
     }
 }
 
 // A line on writing an inner node: the buffer's length, the buffer's digest before.
 fn show_inner(digest: [u8; 32], out: &mut [u8]) {
     say(b"inner");
-    say_number(out.len() as u64);
-    say_digest(out);
+    say_number(b" ", out.len() as u64);
+    say_digest(b" ", out);
     show_written(stored::write_inner(digest, out), out);
 }
 
@@ -144,10 +115,10 @@ fn try_node(flag: u8, stated: u32, n: usize) {
     wire::write_byte(&mut node, 0, flag);
     wire::write4(&mut node, 33, stated);
     say(b"node");
-    say_number(flag as u64);
-    say_number(stated as u64);
+    say_number(b" ", flag as u64);
+    say_number(b" ", stated as u64);
     say(b"\n");
-    show_read(first(&node, n));
+    show_read(front(&node, n));
 }
 
 // Leaves with records of several lengths; the last record is one byte too long.

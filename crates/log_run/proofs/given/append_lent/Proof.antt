@@ -1,4 +1,4 @@
--- `log_run::given::append_lent` is safe: the parts that it lends lie within the record and the buffer.
+-- `log_run::given::append_lent` is safe: the part that it lends lies within the buffer.
 use mathlib.Core.Path.{sym}
 use native.Mathlib.Omega.{arith}
 use lib.Seq.{length-take-le}
@@ -12,7 +12,6 @@ append-lent-spec =
     (tie.spec
     (λ c κs. search needs)
     (λ c κs. search needs)
-    (λ c. sym (length-take-le _ _ (omega arith)))
     (λ c. search needs)
     (λ c. sym (length-take-le _ _ (omega arith)))
     (λ c κs. search needs)

@@ -1,0 +1,13 @@
+#!/bin/sh
+# bench/check.sh: executed instructions of checking a letter of a record of 200 bytes, beside the digests alone, ours and BLAKE3's portable C.
+# The log has 1, 2^10, 2^20 or 2^32 leaves; nobody has to build it, since any items have a root. Counted as by bench/digest.sh.
+# Exit status: 0 where the limit is met, 1 where it is missed or two roots differ, 2 where nothing could be measured.
+set -eu
+# shellcheck source=bench/common.sh
+. "$(dirname "$0")/common.sh"
+# shellcheck source=bench/count.sh
+. "$(dirname "$0")/count.sh"
+find_sources
+find_compilers
+counted_by_both "$work/check" "$here/check.c"
+table check

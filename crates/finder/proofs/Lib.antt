@@ -1,0 +1,12 @@
+-- The laws of the finder.
+pub mod Only
+pub mod Parts
+pub mod Differences
+pub mod Lists
+pub mod Settled
+pub mod Inputs
+pub mod Broken
+pub mod Forks
+pub mod Turning
+pub mod Whole
+pub mod Formed

@@ -1,0 +1,31 @@
+-- The finder's answer, once nothing refuses: by a difference, and with none by the records.
+use mathlib.Core.Path.{_≡_, refl}
+use mathlib.Core.Logic.{_≢_}
+use mathlib.Core.List.{List}
+use Prim.Native.Nat.{ℕ, zero, suc}
+use Rattle.wire.specs.Runs.{splice}
+use Rattle.shape.specs.Differ.{agree}
+use Rattle.finder.specs.declared.difference.Difference.{Difference}
+use Rattle.finder.specs.Outcome.{same, records, pair, findDone}
+use Rattle.finder.specs.Walks.{bytesOf, above, told}
+
+-- the two inputs are written
+pub done-pair : (d : Difference) (m : ℕ) (first second : List ℕ) {x y : List ℕ} → d .apart ≢ 0
+    → x ≡ splice 0 (bytesOf (d .ours)) first → y ≡ splice 0 (bytesOf (d .theirs)) second
+    → record { number = 0; answer = pair; first = x; second = y } ≡ findDone (told d) m first second
+done-pair d m first second {x} {y} h e f = by (d .apart) h
+  where
+    by : (k : ℕ) → k ≢ 0
+        → record { number = 0; answer = pair; first = x; second = y } ≡ findDone (above k (bytesOf (d .ours)) (bytesOf (d .theirs)) agree) m first second
+    by zero z = absurd (z refl)
+    by (suc k) z = rw (e, f)
+
+-- nothing is
+pub done-records : (d : Difference) (m : ℕ) (first second : List ℕ) → d .apart ≡ 0 → m ≢ 0
+    → record { number = 0; answer = records; first = first; second = second } ≡ findDone (told d) m first second
+done-records d zero first second z h = absurd (h refl)
+done-records d (suc m) first second z h = rw z
+
+pub done-same : (d : Difference) (m : ℕ) (first second : List ℕ) → d .apart ≡ 0 → m ≡ 0
+    → record { number = 0; answer = same; first = first; second = second } ≡ findDone (told d) m first second
+done-same d m first second z h = rw (z, h)

@@ -1,0 +1,190 @@
+-- The walk by recursion on the height: `Turning` has the room that each call has, and what is found with one more turn above.
+use Prim.Native.Nat.{ℕ, _+_, _-_, _<_}
+use mathlib.Core.Path.{_≡_, refl, sym, _∙_}
+use native.Mathlib.Omega.{arith}
+use lib.ListN.{length, length-map}
+use borrow.Author.Needs.{needs}
+use borrow.Fn.Kinds.{In}
+use borrow.Fn.PlainCycle.{Measures, is, falls, and}
+use Rattle.shape.proofs.Ways.{way-most}
+use Rattle.finder.proofs.Differences.{same-left, same-right}
+use Rattle.finder.proofs.Turning.{Above, half-bounds, low-room, left-room, right-room, fork-room, read-lengths}
+use Rattle.finder.proofs.Turning.{turned-none, turned-low, turned-left, turned-within, turned-past}
+use Rattle.finder.proofs.walk.walk.Reads as walk
+use Rattle.finder.proofs.walk.walk.Kinds as walk-kinds
+use Rattle.finder.proofs.walk.+walk.Lts-walk as walk-lts
+use Rattle.finder.proofs.difference.agreement.Reads as agreement
+use Rattle.finder.proofs.walk.fork.Reads as fork
+use Rattle.finder.proofs.walk.digest_at.Reads as digest-at
+use Rattle.log.proofs.fold.fold_from.Reads as fold-from
+use Rattle.shape.proofs.power.Reads as power
+use Rattle.finder.proofs.walk.+walk.{statement}
+use Rattle.finder.proofs.walk.+walk.Tie.{close}
+
+-- the height falls
+abbrev μ-walk : Measures 2 walk-kinds.ps ℕ
+μ-walk κs a = a .1 .1 .0
+
+abbrev walk-at : ℕ → In 2 walk-kinds.ps
+walk-at t = and 2 walk-kinds.ps (is 2 walk-kinds.ps μ-walk t) walk.Pre
+
+abbrev walk-below : ℕ → In 2 walk-kinds.ps
+walk-below t = and 2 walk-kinds.ps (falls 2 walk-kinds.ps _<_ μ-walk t) walk.Pre
+
+-- above height 0
+above : (t : ℕ) (c : walk-lts.After-power (
+  digest-at.Asked,
+  digest-at.Learnt,
+  agreement.Asked,
+  agreement.Learnt,
+  power.Asked,
+  power.Learnt,
+  walk-below t,
+  walk.Post,
+  fold-from.Asked,
+  fold-from.Learnt,
+  fork.Asked,
+  fork.Learnt,
+) (walk-at t) walk.Post)
+    → let a = c .before .before .before .before .args in Above (a .h) (a .n) (a .i) (a .s) (a .from) (c .power .result)
+above t c = record { some = c .before .if1 .left; power = c .power .ensures; fits = c .before .before .before .before .pre .1 }
+
+pub +walk-spec : {M : Type 1} → statement M
++walk-spec =
+    close μ-walk
+    (λ t. walk-lts.spec (
+      digest-at.Asked,
+      digest-at.Learnt,
+      agreement.Asked,
+      agreement.Learnt,
+      power.Asked,
+      power.Learnt,
+      walk-below t,
+      walk.Post,
+      fold-from.Asked,
+      fold-from.Learnt,
+      fork.Asked,
+      fork.Learnt,
+    )
+    (walk-at t)
+    walk.Post
+    -- one leaf
+    (λ c κs. search needs)
+    (λ c κs. search needs)
+    (λ c.
+    let start = c .before .before .before .before .before in
+    let a = start .args in
+    turned-none (a .nodes .now) (a .items .now) (a .leaf .bytes) (a .n) (a .i) (a .s) (a .from) _ (a .h)
+    (c .before .before .if1 .taken) (start .pre .1) refl (c .before .digest-at .ensures) refl refl (c .agreement .ensures))
+    (λ c. search needs)
+    (λ c κs. search needs)
+    -- all leaves at the height below
+    (λ c κs. let f = above t (c .before) in (omega (arith, f .some), low-room f (c .if2 .taken)))
+    (λ c.
+    let p = c .before .before in
+    let f = above t p in
+    let a = p .before .before .before .before .args in
+    turned-low (a .nodes .now) (a .items .now) (a .leaf .bytes) (a .n) (a .i) (a .s) (a .from) _ f (c .before .if2 .taken) (c .walk .ensures))
+    -- where the right side begins, and the leaves in it
+    (λ c. let f = half-bounds (above t (c .before)) in omega arith)
+    (λ c. let f = half-bounds (above t (c .before)) in omega arith)
+    (λ c. let f = half-bounds (above t (c .before)) in omega arith)
+    (λ c. search needs)
+    -- a left turn
+    (λ c κs. let f = above t (c .before .before) in (omega (arith, f .some), left-room f (c .if3 .taken)))
+    (λ c κs. search needs)
+    (λ c.
+    let p = c .before .before .before .before .before .before .before in
+    let f = above t p in
+    let a = p .before .before .before .before .args in
+    let half = p .power .result in
+    omega (arith, f .fits .few, c .before .before .before .before .walk2 .ensures .used, way-most (a .h - 1) half (a .i)))
+    (λ c κs.
+    let p = c .before .before .before .before .before .before .before in
+    let f = above t p in
+    let a = p .before .before .before .before .args in
+    let half = p .power .result in
+    omega (arith, f .fits .few, c .before .before .before .before .walk2 .ensures .used, way-most (a .h - 1) half (a .i)))
+    (λ c κs.
+    let p = c .before .before .before .before .before .before .before .before in
+    let f = above t p in
+    let a = p .before .before .before .before .args in
+    let half = p .power .result in
+    let low = c .before .before .before .before .before .walk2 in
+    let n : length (low .result .log .bytes) ≡ 32 = sym (length-map (low .result .log .bytes) (λ v. v)) ∙ low .ok .1 .1 .0 .1 .1 .0 .1 .0 .1 in
+    let m : length (low .result .letter .bytes) ≡ 32 = sym (length-map (low .result .letter .bytes) (λ v. v)) ∙ low .ok .1 .1 .1 .0 .1 .1 .0 .1 .0 .1 in
+    (fork-room f half (a .i) (low .ensures .used), same-left _ _ _ _ (n ∙ sym m)))
+    (λ c.
+    let p = c .before .before .before .before .before .before .before .before .before in
+    let f = above t p in
+    let a = p .before .before .before .before .args in
+    turned-left (a .nodes .now) (a .items .now) (a .leaf .bytes) (a .n) (a .i) (a .s) (a .from) _ _ _ _ f (f .fits)
+    (c .before .before .before .before .before .before .before .before .if2 .left) (c .before .before .before .before .before .before .before .if3 .taken) (c .before .before .before .before .before .before .walk2 .ensures) refl (c .before .before .before .fold-from .ensures)
+    refl (c .before .digest-at2 .ensures) (c .fork .ensures))
+    -- the left child or peak
+    (λ c. let f = half-bounds (above t (c .before .before)) in omega arith)
+    (λ c κs. let f = half-bounds (above t (c .before .before)) in omega arith)
+    -- a right turn within a peak
+    (λ c κs.
+    let p = c .before .before .before .before in
+    let f = above t p in
+    let a = p .before .before .before .before .args in
+    (omega (arith, f .some), right-room f (a .from) (omega arith) (c .before .before .before .if2 .left) (c .before .before .if3 .left)))
+    (λ c.
+    let p = c .before .before .before .before .before .before in
+    let f = above t p in
+    let a = p .before .before .before .before .args in
+    let half = p .power .result in
+    omega (arith, f .fits .few, c .before .walk3 .ensures .used, way-most (a .h - 1) (a .n - half) (a .i - half)))
+    (λ c κs.
+    let p = c .before .before .before .before .before .before in
+    let f = above t p in
+    let a = p .before .before .before .before .args in
+    let half = p .power .result in
+    omega (arith, f .fits .few, c .before .walk3 .ensures .used, way-most (a .h - 1) (a .n - half) (a .i - half)))
+    (λ c κs.
+    let p = c .before .before .before .before .before .before .before .before .before in
+    let f = above t p in
+    let a = p .before .before .before .before .args in
+    let half = p .power .result in
+    let low = c .before .before .before .before .walk3 in
+    let left = c .before .before .before .before .before .before .digest-at3 in
+    let side = c .before .before .digest-at4 in (
+      fork-room f (a .n - half) (a .i - half) (low .ensures .used),
+      same-right (left .result .bytes) (low .result .log .bytes) (side .result .bytes) (low .result .letter .bytes)
+          (read-lengths (a .nodes .now) (a .items .now) _ _ (left .ensures) (side .ensures)),
+    ))
+    (λ c.
+    let p = c .before .before .before .before .before .before .before .before .before .before in
+    let f = above t p in
+    let a = p .before .before .before .before .args in
+    turned-within (a .nodes .now) (a .items .now) (a .leaf .bytes) (a .n) (a .i) (a .s) (a .from) _ _ _ _ f (f .fits)
+    (c .before .before .before .before .before .before .before .before .before .if2 .left) (c .before .before .before .before .before .before .before .before .if3 .left) (c .before .before .before .before .before .before .if4 .taken) (c .before .before .before .before .before .walk3 .ensures) (c .before .before .before .before .before .before .before .digest-at3 .ensures) refl
+    (c .before .before .before .digest-at4 .ensures) refl (c .fork2 .ensures))
+    -- a right turn past a peak
+    (λ c κs. let f = above t (c .before .before .before .before) in omega (arith, f .fits .few))
+    (λ c. let f = above t (c .before .before .before .before .before) in omega (arith, f .fits .few))
+    (λ c κs.
+    let p = c .before .before .before .before .before in
+    let f = above t p in
+    let a = p .before .before .before .before .args in
+    (omega (arith, f .some), right-room f (a .from + 1) (omega arith) (c .before .before .before .before .if2 .left) (c .before .before .before .if3 .left)))
+    (λ c κs.
+    let p = c .before .before .before .before .before .before .before .before in
+    let f = above t p in
+    let a = p .before .before .before .before .args in
+    let half = p .power .result in
+    let low = c .before .before .walk4 in
+    let left = c .before .before .before .before .before .digest-at3 in
+    let side = c .before .before .before .digest-at5 in (
+      fork-room f (a .n - half) (a .i - half) (low .ensures .used),
+      same-right (left .result .bytes) (low .result .log .bytes) (side .result .bytes) (low .result .letter .bytes)
+          (read-lengths (a .nodes .now) (a .items .now) _ _ (left .ensures) (side .ensures)),
+    ))
+    (λ c.
+    let p = c .before .before .before .before .before .before .before .before .before in
+    let f = above t p in
+    let a = p .before .before .before .before .args in
+    turned-past (a .nodes .now) (a .items .now) (a .leaf .bytes) (a .n) (a .i) (a .s) (a .from) _ _ _ _ f (f .fits)
+    (c .before .before .before .before .before .before .before .before .if2 .left) (c .before .before .before .before .before .before .before .if3 .left) (c .before .before .before .before .before .if4 .left) (c .before .before .before .walk4 .ensures) (c .before .before .before .before .before .before .digest-at3 .ensures) refl
+    (c .before .before .before .before .digest-at5 .ensures) refl (c .fork3 .ensures)))

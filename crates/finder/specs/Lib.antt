@@ -1,0 +1,3 @@
+-- What the finder returns, and what the code's own steps are called.
+pub mod Outcome
+pub mod Walks

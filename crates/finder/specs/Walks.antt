@@ -1,0 +1,94 @@
+-- What the finder's own steps are called: an input, a difference, a fork above a walk, and what a walk finds, for any nodes and any items.
+use mathlib.Core.Path.{_≡_}
+use mathlib.Core.Bool.{true, false}
+use mathlib.Core.List.{List, [], _∷_, _++_}
+use Prim.Native.Nat.{ℕ, zero, suc, _+_, _-_, _*_, _^_, _≤_, _<_}
+use lib.Dec.{eqb}
+use lib.ListN.{length}
+use Rattle.digest.specs.Digest.{digestOf}
+use Rattle.order.specs.Order.{_if_, _is-not_, verdict}
+use Rattle.wire.specs.Runs.{differ}
+use Rattle.shape.specs.Tree.{Tree, root, inputs}
+use Rattle.shape.specs.Letter.{wayIn, fill}
+use Rattle.shape.specs.Positions.{peaksIn, fold}
+use Rattle.shape.specs.Seen.{either, seenIn, seen, brokenIn}
+use Rattle.shape.specs.Differ as difference
+use Rattle.shape.specs.Differ.{Diff, agree}
+use Rattle.log.specs.Nodes.{nodeIn}
+use Rattle.letter.specs.Bytes.{digestsFrom}
+use Rattle.letter.specs.Items.{itemCount, treeOf}
+use Rattle.finder.specs.Outcome.{FindOutcome, findRefused, findDone, roomOrder, ownRoot, ownOrder}
+use Rattle.finder.specs.declared.difference.Input.{Input}
+use Rattle.finder.specs.declared.difference.Difference.{Difference}
+use Rattle.finder.specs.declared.walk.Trail.{Trail}
+
+-- the 64 bytes of an input
+abbrev pub bytesOf : Input → List ℕ
+bytesOf x = x .left .bytes ++ x .right .bytes
+
+-- the first difference with two inputs more above: these where they are apart, else the one below
+abbrev pub above : ℕ → List ℕ → List ℕ → Diff → Diff
+above zero ours theirs below = below
+above (suc k) ours theirs below = difference.pair ours theirs
+
+-- a difference by the answer
+abbrev pub told : Difference → Diff
+told d = above (d .apart) (bytesOf (d .ours)) (bytesOf (d .theirs)) agree
+
+-- a number where the two inputs on top are the same, else 0
+abbrev pub whereSame : ℕ → ℕ → ℕ
+whereSame zero k = 0
+whereSame (suc s) k = k
+
+-- 1 where a node of a walk isn't the digest of its two children, else 0: the node on top, where that was left open, or one below
+abbrev pub brokenBy : Trail → ℕ
+brokenBy w = either (whereSame (w .same) (differ (w .log .bytes) (w .letter .bytes))) (w .broken)
+
+-- on top of a fork of `half` leaves and `rest`, whose right side begins at position mid: the node within a peak, above the peaks what is worked out
+unfoldable pub crown : List ℕ → ℕ → ℕ → ℕ → List ℕ → List ℕ
+crown bs half rest mid up = elim (eqb rest half) [ true ↦ nodeIn bs (mid + (2 * half - 1)) | false ↦ up ]
+
+-- no sum wraps
+pub record Forkable (half mid taken : ℕ) : Type 0 where
+  pub some : 0 < half
+  pub few : half ≤ 2 ^ 32
+  pub near : mid ≤ 2 ^ 34
+  pub used : taken ≤ 64
+
+-- one fork above the walk `low`: t stands on top of it, `up` is the digest of the log's input
+pub record Joined (low : Trail) (t up : List ℕ) (ours theirs : Input) (w : Trail) : Type 0 where
+  pub used : w .used ≡ low .used + 1
+  pub log : w .log .bytes ≡ t
+  pub letter : w .letter .bytes ≡ digestOf (bytesOf theirs)
+  pub broken : brokenBy w ≡ either (differ t up) (brokenBy low)
+  pub first : told (w .difference) ≡ above (differ (bytesOf ours) (bytesOf theirs)) (bytesOf ours) (bytesOf theirs) (told (low .difference))
+
+-- a walk to leaf i of n, n at most 2^h, whose nodes begin at position s, with the items from number `from` on
+pub record Walkable (h n i s from : ℕ) : Type 0 where
+  pub low : h ≤ 32
+  pub inside : i < n
+  pub most : n ≤ 2 ^ h
+  pub near : s + 2 * 2 ^ h ≤ 2 ^ 34
+  pub few : from + h ≤ 64
+
+-- the tree that the letter shows there
+abbrev pub lettered : ℕ → ℕ → ℕ → List ℕ → ℕ → List ℕ → Tree
+lettered h n i leaf from items = fill (wayIn h n i) leaf (digestsFrom (32 * from) (length (wayIn h n i)) items)
+
+pub record Walked (h n i s : ℕ) (leaf : List ℕ) (from : ℕ) (bs items : List ℕ) (w : Trail) : Type 0 where
+  pub used : w .used ≡ length (wayIn h n i)
+  pub log : w .log .bytes ≡ fold digestOf (nodeIn bs) (peaksIn (suc h) n s)
+  pub letter : w .letter .bytes ≡ root digestOf (lettered h n i leaf from items)
+  pub broken : brokenBy w ≡ brokenIn digestOf (nodeIn bs) (suc h) n i s
+  pub first : told (w .difference)
+      ≡ difference.differ (seenIn digestOf (nodeIn bs) h n i s) (inputs digestOf (lettered h n i leaf from items))
+
+-- a letter of the right form compared: 9, then 3 and 13 for the log's own record, 14, and 6; `theirs` is its record
+unfoldable pub againstOutcome : List ℕ → ℕ → ℕ → List ℕ → List ℕ → List ℕ → List ℕ → List ℕ → FindOutcome
+againstOutcome bs n i rec theirs items first second =
+    let tree = treeOf digestOf n i theirs (digestsFrom 0 (itemCount n i) items) in
+    let R = findRefused first second in
+    verdict R (9 if differ (ownRoot digestOf n bs) (root digestOf tree) is-not 0 ∷ [])
+    (verdict R (ownOrder digestOf n bs rec i)
+    (verdict R (roomOrder first second)
+    (findDone (difference.differ (seen digestOf (nodeIn bs) n i) (inputs digestOf tree)) (differ rec theirs) first second)))

@@ -1,0 +1,27 @@
+-- `finder_run::edges::show_all` is safe and ends: the loop runs over the seven records.
+use Prim.Native.Nat.{_-_, _≤_}
+use borrow.Author.Needs.{needs}
+use Rattle.finder_run.proofs.edges.show_all.Statement.{statement}
+use Rattle.finder_run.proofs.edges.show_all.Tie as tie
+
+abbrev Inv-loop : tie.InvT-loop
+Inv-loop nodes₀ size₀ k₀ nodes size k = k ≤ 7
+
+abbrev μ-loop : tie.MeasureT-loop
+μ-loop nodes₀ size₀ k₀ nodes size k = 7 - k
+
+pub show-all-spec : {M : Type 1} → statement M
+show-all-spec =
+    tie.close
+    (tie.spec
+    Inv-loop
+    μ-loop
+    (λ c. search needs)
+    (λ c κs. search needs)
+    (λ c. search needs)
+    (λ c. search needs)
+    (λ c. search needs)
+    (λ c. search needs)
+    (λ c κs. search needs)
+    (λ c κs. search needs)
+    (λ c. search needs))

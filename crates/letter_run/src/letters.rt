@@ -1,0 +1,63 @@
+// Every letter of logs of 1 to 20 records: written, checked, its record compared.
+use crate::logs::differ_behind;
+use crate::logs::grow;
+use crate::logs::length_of;
+use crate::logs::root_of;
+use crate::logs::show_checked;
+use runs::given::fill;
+use runs::given::front;
+use runs::given::record_of;
+use runs::lines::say;
+use runs::lines::say_digest;
+use runs::lines::say_numbers;
+
+// 1 where a byte behind the first n has changed, else 0.
+fn changed_behind(out: &[u8; 16640], n: usize) -> u64 {
+    let mut before = [0u8; 16640];
+    fill(9, &mut before);
+    differ_behind(out, &before, n)
+}
+
+// A letter of n bytes: its digest; what the checker makes of it; whether its record differs from the log's, and whether a byte behind it has changed.
+fn show_letter(size: u64, root: [u8; 32], out: &[u8; 16640], n: usize, rec: &[u8]) {
+    let letter = front(out, n);
+    say_digest(b" ", letter);
+    show_checked(b" check", checker::check(size, &root, letter));
+    let other = wire::differ(checker::record_in(size, &root, letter), rec);
+    let numbers = [other as u64, changed_behind(out, n)];
+    say_numbers(b" differ", &numbers);
+    say(b"\n");
+}
+
+// The line of one letter, written with its record.
+fn show_line(leaves: usize, size: u64, index: usize, rec: &[u8], nodes: &[u8; 1216]) {
+    let mut out = [0u8; 16640];
+    fill(9, &mut out);
+    let w = writer::write_letter(size, index as u64, rec, nodes, &mut out);
+    let numbers = [
+        leaves as u64,
+        index as u64,
+        w.number as u64,
+        w.length as u64,
+    ];
+    say_numbers(b"letter", &numbers);
+    show_letter(size, root_of(size, nodes), &out, w.length, rec);
+}
+
+// The lines of a log.
+fn show_log(leaves: usize, size: u64, nodes: &[u8; 1216]) {
+    for index in 0..leaves {
+        let rec = record_of(index);
+        show_line(leaves, size, index, front(&rec, length_of(index)), nodes);
+    }
+}
+
+pub(crate) fn show_all() {
+    let mut nodes = [0u8; 1216];
+    let mut size: u64 = 0;
+    for k in 0..20 {
+        let next = grow(size, k, &mut nodes);
+        size = next;
+        show_log(k + 1, size, &nodes);
+    }
+}

@@ -1,0 +1,16 @@
+// Letters of small logs, letters at the edges of the writer's and the checker's orders, one letter changed in every place, and the shortcuts that
+// lose a match, to be compared with the second program's. Number 15 is not among the answers: no index of a log needs more than 32 items.
+mod changes;
+mod checks;
+mod letters;
+mod logs;
+mod shortcuts;
+mod writes;
+
+fn main() {
+    letters::show_all();
+    writes::show_all();
+    checks::show_all();
+    changes::show_all();
+    shortcuts::show_all();
+}

@@ -1,0 +1,35 @@
+// The program that panels run: trusted size (8 bytes, big-endian), root (32) and one letter from standard input, the verdict number in
+// decimal and a newline to standard output. It reads at most 17,469 bytes, since a longer letter gets the same number.
+ghost use mathlib.Core.Path.{_≡_};
+ghost use lib.ListN.{length, take};
+ghost use Rattle.io.specs.Counts.{Counts};
+ghost use Rattle.io.specs.Digits.{digits, Fewest};
+ghost use Rattle.digest.specs.Digest.{digestOf};
+ghost use Rattle.checker.specs.Outcome.{judged};
+use libc::STDIN_FILENO;
+use libc::STDOUT_FILENO;
+
+// The verdict number in decimal, by the fewest digits, at the start of out; how many they are.
+fn verdict(input: &[u8], out: &mut [u8; 20]) -> usize
+    ensures { λ r. ⌜ Counts r (now (out .exit)) ⌝ }
+    ensures { λ r. ⌜ Fewest 10 1 (judged digestOf (now (input .entry))) r ⌝ }
+    ensures { λ r. ⌜ take r (now (out .exit)) ≡ digits 10 r (judged digestOf (now (input .entry))) ⌝ }
+{
+    io::decimal(checker::judge(input) as u64, out)
+}
+
+// The one buffer: the longest letter, with size and root before it, and a byte more.
+fn buffer() -> [u8; 17469]
+    ensures { λ r. ⌜ 17469 ≡ length r ⌝ }
+{
+    [0; 17469]
+}
+
+fn main() {
+    let mut input = buffer();
+    let n = io::read_full(STDIN_FILENO, &mut input);
+    let mut text = [0u8; 20];
+    let k = verdict(&input[..n], &mut text);
+    io::write_all(STDOUT_FILENO, &text[..k]);
+    io::write_all(STDOUT_FILENO, b"\n");
+}

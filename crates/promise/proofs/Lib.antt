@@ -1,0 +1,6 @@
+-- The promise, proved.
+pub mod Kept
+pub mod Ours
+pub mod Checked
+pub mod Found
+pub mod Promise

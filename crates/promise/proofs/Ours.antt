@@ -1,0 +1,87 @@
+-- Our letter of a log's own record, over any digest function: its items, its fields, and the tree that it shows.
+use mathlib.Core.Path.{_≡_, refl, sym, ap, ap₂, _∙_}
+use mathlib.Core.Bool.{true, false, _&&_}
+use mathlib.Core.List.{List, [], map}
+use Prim.Native.Nat.{ℕ, _+_, _*_, _^_, _≤_, _<_}
+use native.Mathlib.Omega.{arith}
+use borrow.Author.Tests.{le-leb, lt-ltb}
+use lib.ListN.{length, length-map}
+use Rattle.shape.specs.Sizes.{sizeOf}
+use Rattle.shape.specs.Tree.{Each, Tree, root}
+use Rattle.shape.specs.Folded.{tree}
+use Rattle.shape.specs.Letter.{way, fill, items}
+use Rattle.shape.proofs.Letters.{items-length, items-32, complete}
+use Rattle.shape.proofs.Reading.{items-read}
+use Rattle.log.specs.Nodes.{nodeIn}
+use Rattle.log.specs.Outcomes.{leaves}
+use Rattle.letter.specs.Bytes.{letterBytes, sizeIn, indexIn, statedIn, recordIn, itemsIn}
+use Rattle.letter.specs.Items.{itemCount, itemsOf, letterTree, workedRoot}
+use Rattle.letter.specs.Order.{exactLength}
+use Rattle.letter.proofs.ItemsOf.{items-of-log}
+use Rattle.letter.proofs.Spelling.{letter-length, size-read, index-read, stated-read, record-read, items-read-back}
+use Rattle.writer.specs.Outcome.{ourLetter}
+use Rattle.promise.specs.Promise.{logSize, recordAt, ours}
+use Rattle.promise.proofs.Kept.{Kept, counts, size-small, log-32, record-short, leads}
+
+module _ {digest : List ℕ → List ℕ} {rs : List (List ℕ)} {bs : List ℕ} (k : Kept digest rs bs) (i : ℕ) (p : i < length rs) where
+  -- the items of the log's tree on the way to leaf i
+  abbrev ownItems : List (List ℕ)
+  ownItems = items digest (tree (map digest rs)) (way (length rs) i)
+
+  own-many : itemCount (length rs) i ≡ length ownItems
+  unfolding itemCount
+  own-many = sym (items-length digest (leads k i p))
+
+  own-32 : Each 32 ownItems
+  own-32 = items-32 digest (k .digest-32) (leads k i p) (log-32 k)
+
+  -- what the nodes give for the items are the items of the tree
+  items-own : itemsOf digest bs (leaves (logSize rs)) i ≡ ownItems
+  items-own =
+      let m : length (map digest rs) ≡ length rs = length-map rs digest in
+      ap (λ (n : ℕ). itemsOf digest bs n i) (counts k .value)
+      ∙ (rw m at (items-of-log digest bs (map digest rs) i (omega arith) (omega (arith, k .log .few)) (k .holds)))
+
+  -- so our letter for a record and the index i has them, whatever stands in the buffer beyond the nodes
+  pub letter-own : (rec : List ℕ) → ourLetter digest (logSize rs) i rec bs ≡ letterBytes (logSize rs) i rec ownItems
+  unfolding ourLetter
+  letter-own rec = ap (letterBytes (logSize rs) i rec) items-own
+
+  abbrev spelt : List ℕ
+  spelt = letterBytes (logSize rs) i (recordAt rs i) ownItems
+
+  is-spelt : ours digest rs bs i ≡ spelt
+  is-spelt = letter-own (recordAt rs i)
+
+  -- each field is read where it was put
+  pub ours-size : sizeIn (ours digest rs bs i) ≡ logSize rs
+  ours-size = ap sizeIn is-spelt ∙ size-read (logSize rs) i (recordAt rs i) ownItems (size-small k)
+
+  pub ours-index : indexIn (ours digest rs bs i) ≡ i
+  ours-index = ap indexIn is-spelt ∙ index-read (logSize rs) i (recordAt rs i) ownItems (omega (arith, k .log .few))
+
+  rec-small : length (recordAt rs i) < 256 ^ 4
+  rec-small = omega (arith, record-short k i p)
+
+  pub ours-stated : statedIn (ours digest rs bs i) ≡ length (recordAt rs i)
+  ours-stated = ap statedIn is-spelt ∙ stated-read (logSize rs) i (recordAt rs i) ownItems rec-small
+
+  pub ours-record : recordIn (ours digest rs bs i) ≡ recordAt rs i
+  ours-record = ap recordIn is-spelt ∙ record-read (logSize rs) i (recordAt rs i) ownItems rec-small
+
+  pub ours-items : itemsIn (itemCount (length rs) i) (ours digest rs bs i) ≡ ownItems
+  ours-items =
+      ap₂ itemsIn own-many is-spelt ∙ items-read-back (logSize rs) i (recordAt rs i) ownItems rec-small own-32
+
+  pub ours-exact : length (ours digest rs bs i) ≡ exactLength (length rs) (ours digest rs bs i)
+  ours-exact =
+      let e : itemCount (length rs) (indexIn (ours digest rs bs i)) ≡ length ownItems = ap (itemCount (length rs)) ours-index ∙ own-many in
+      ap length is-spelt ∙ letter-length (logSize rs) i (recordAt rs i) ownItems own-32 ∙ omega (arith, ours-stated)
+
+  -- the tree that it shows is that of the log's leaf and items, and its root is the log's
+  pub ours-tree : letterTree digest (length rs) (ours digest rs bs i) ≡ fill (way (length rs) i) (digest (recordAt rs i)) ownItems
+  ours-tree = rw (ours-index, ours-record, ours-items)
+
+  pub ours-root : workedRoot digest (length rs) (ours digest rs bs i) ≡ root digest (tree (map digest rs))
+  unfolding workedRoot
+  ours-root = ap (root digest) ours-tree ∙ complete digest (leads k i p)

@@ -1,0 +1,2 @@
+-- What writer, checker and finder promise together.
+pub mod Promise

@@ -1,0 +1,2 @@
+-- One byte more of a record.
+pub mod More

@@ -1,0 +1,2 @@
+-- The bytes that the programs give.
+pub mod Given

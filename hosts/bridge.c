@@ -1,0 +1,147 @@
+/* The library's calls over a pipe, for tools/outside.py: what a call is lent lies against forbidden pages, and all of it goes back.
+
+   A request: the call's name (16 bytes, zeros behind it), the placing (1), how many lent parts (1), two numbers (8 each), the length of each
+   part (4 each), the parts' bytes. A part is a lent buffer or a result variable. An answer: whether a byte around a part was changed (1), the
+   call's number (4), the parts' bytes. All little-endian. Placing, bit 0: a part ends where its room ends, else it begins where that begins;
+   bit 1: an empty part has a null pointer. Next to its room on either side is a page that nobody may read or write, and a call may not write
+   to a part that it only reads: a library that does ends this program, and that is a difference too. */
+#include <stdint.h>
+#include <stdio.h>
+#include <stdlib.h>
+#include <string.h>
+#include <sys/mman.h>
+#include <unistd.h>
+#include "keeper.h"
+
+enum { NAME = 16, NUMBERS = 2, PARTS = 6, ROOM = 1 << 17, MARGIN = 256, UNTOUCHED = 0xA5 };
+typedef struct {
+    uint8_t *room, *bytes;
+    size_t length;
+} Part;
+static Part parts[PARTS];
+static uint64_t numbers[NUMBERS];
+
+/* ---- the calls, by the names and in the order of keeper.h */
+
+#define BUFFER(I) parts[I].bytes, parts[I].length
+#define U64(I) ((uint64_t *)(void *)parts[I].bytes)
+#define U32(I) ((uint32_t *)(void *)parts[I].bytes)
+#define SIZE(I) ((size_t *)(void *)parts[I].bytes)
+
+static uint32_t digest(void) { return keeper_digest(BUFFER(0), BUFFER(1)); }
+static uint32_t size(void) { return keeper_size(numbers[0], U64(0)); }
+static uint32_t leaf_position(void) { return keeper_leaf_position(numbers[0], U64(0)); }
+static uint32_t leaf_count(void) { return keeper_leaf_count(numbers[0], U64(0)); }
+static uint32_t append(void) { return keeper_append(numbers[0], BUFFER(0), BUFFER(1), U64(2), U64(3)); }
+static uint32_t root(void) { return keeper_root(numbers[0], BUFFER(0), BUFFER(1)); }
+static uint32_t letter_write(void) { return keeper_letter_write(numbers[0], numbers[1], BUFFER(0), BUFFER(1), BUFFER(2), SIZE(3)); }
+static uint32_t letter_check(void) { return keeper_letter_check(numbers[0], BUFFER(0), BUFFER(1), U64(2), SIZE(3), SIZE(4)); }
+static uint32_t find(void) { return keeper_find(numbers[0], BUFFER(0), BUFFER(1), BUFFER(2), BUFFER(3), BUFFER(4), U32(5)); }
+static uint32_t store_leaf(void) { return keeper_store_leaf(BUFFER(0), BUFFER(1), SIZE(2)); }
+static uint32_t store_inner(void) { return keeper_store_inner(BUFFER(0), BUFFER(1), SIZE(2)); }
+static uint32_t read_node(void) { return keeper_read_node(BUFFER(0), U32(1), BUFFER(2), SIZE(3), SIZE(4)); }
+
+/* No call of the library: writes one byte beside a part, which has to be noticed. */
+static uint32_t stray(void) {
+    if (parts[0].bytes == parts[0].room) parts[0].bytes[parts[0].length] = 0;
+    else parts[0].bytes[-1] = 0;
+    return 0;
+}
+
+/* A call, and how many parts, the first ones, it only reads. */
+static const struct {
+    const char *name;
+    uint32_t (*call)(void);
+    int reads;
+} calls[] = {
+    {"digest", digest, 1},
+    {"size", size, 0},
+    {"leaf_position", leaf_position, 0},
+    {"leaf_count", leaf_count, 0},
+    {"append", append, 1},
+    {"root", root, 1},
+    {"letter_write", letter_write, 2},
+    {"letter_check", letter_check, 2},
+    {"find", find, 3},
+    {"store_leaf", store_leaf, 1},
+    {"store_inner", store_inner, 1},
+    {"read_node", read_node, 1},
+    {"stray", stray, 0},
+};
+
+/* ---- rooms */
+
+static _Noreturn void stop(const char *why) {
+    fprintf(stderr, "bridge: %s\n", why);
+    exit(2);
+}
+
+static void make_rooms(void) {
+    size_t page = (size_t)sysconf(_SC_PAGESIZE);
+    for (int i = 0; i < PARTS; i++) {
+        uint8_t *all = mmap(NULL, ROOM + 2 * page, PROT_NONE, MAP_PRIVATE | MAP_ANONYMOUS, -1, 0);
+        if (all == MAP_FAILED || mprotect(all + page, ROOM, PROT_READ | PROT_WRITE) != 0) stop("no memory");
+        parts[i].room = all + page;
+        memset(parts[i].room, UNTOUCHED, ROOM);
+    }
+}
+
+/* The bytes of the room beside a part, behind it or before it, have the value that they were given. */
+static int margin_untouched(const Part *part) {
+    if (!part->bytes) return 1;
+    const uint8_t *margin = part->bytes == part->room ? part->bytes + part->length : part->bytes - MARGIN;
+    for (int i = 0; i < MARGIN; i++)
+        if (margin[i] != UNTOUCHED) return 0;
+    return 1;
+}
+
+/* ---- requests and answers */
+
+static int read_whole(void *bytes, size_t count) { return fread(bytes, 1, count, stdin) == count; }
+
+static uint32_t word_at(const uint8_t *at) { return at[0] | (uint32_t)at[1] << 8 | (uint32_t)at[2] << 16 | (uint32_t)at[3] << 24; }
+
+static void place(Part *part, size_t length, int placing) {
+    if (length > ROOM - MARGIN) stop("a part is too long");
+    part->length = length;
+    part->bytes = placing & 1 ? part->room + ROOM - length : part->room;
+    if (length == 0 && placing & 2) part->bytes = NULL;
+    if (length > 0 && !read_whole(part->bytes, length)) stop("the request was cut");
+}
+
+/* Calls with the parts that are only read made so; the number. */
+static uint32_t call(const char *name) {
+    for (size_t i = 0; i < sizeof calls / sizeof *calls; i++) {
+        if (strcmp(name, calls[i].name) != 0) continue;
+        for (int k = 0; k < calls[i].reads; k++) mprotect(parts[k].room, ROOM, PROT_READ);
+        uint32_t number = calls[i].call();
+        for (int k = 0; k < calls[i].reads; k++) mprotect(parts[k].room, ROOM, PROT_READ | PROT_WRITE);
+        return number;
+    }
+    stop("no call has that name");
+}
+
+static void answer(uint32_t number, int count) {
+    uint8_t head[5] = {0, (uint8_t)number, (uint8_t)(number >> 8), (uint8_t)(number >> 16), (uint8_t)(number >> 24)};
+    for (int i = 0; i < count; i++) head[0] |= (uint8_t)!margin_untouched(&parts[i]);
+    fwrite(head, 1, sizeof head, stdout);
+    for (int i = 0; i < count; i++) {
+        if (parts[i].length > 0) fwrite(parts[i].bytes, 1, parts[i].length, stdout);
+        memset(parts[i].room, UNTOUCHED, parts[i].length + MARGIN);
+        memset(parts[i].room + ROOM - parts[i].length - MARGIN, UNTOUCHED, parts[i].length + MARGIN);
+    }
+    fflush(stdout);
+}
+
+int main(void) {
+    char name[NAME + 1] = {0};
+    uint8_t head[2], words[8 * NUMBERS + 4 * PARTS];
+    make_rooms();
+    while (read_whole(name, NAME)) {
+        if (!read_whole(head, sizeof head) || head[1] > PARTS || !read_whole(words, 8 * NUMBERS + 4u * head[1])) stop("the request was cut");
+        for (int i = 0; i < NUMBERS; i++) numbers[i] = word_at(words + 8 * i) | (uint64_t)word_at(words + 8 * i + 4) << 32;
+        for (int i = 0; i < head[1]; i++) place(&parts[i], word_at(words + 8 * NUMBERS + 4 * i), head[0]);
+        answer(call(name), head[1]);
+    }
+    return 0;
+}

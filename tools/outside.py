@@ -1,0 +1,293 @@
+#!/usr/bin/env python3
+"""The calls for C from outside: the library and the second program answer the same thousands of true, random and damaged inputs.
+
+A C program, hosts/bridge.c, makes each call on buffers that lie against forbidden pages and hands back the number and every byte that it lent,
+result variables too. What tools/second.py says is compared with all of it. The finder's "records" and "pair" are two strings of one digest:
+nobody has such strings, so of its answers only "same" and the refusals are met here.
+
+    outside.py                        build the bridge and compare
+    outside.py --seed N --rounds N    other random inputs, or more of them
+    outside.py --only CASE            one case of that seed once more, with all its bytes
+    outside.py --self-test            only try that a wrong answer is noticed (each run begins with this)
+    outside.py --wrong CASE           let the second program answer that case wrongly: the run has to fail there
+
+Exit status: 0 where all agree; 1 at the first difference, which is printed; 2 where nothing could be run.
+"""
+import argparse
+import struct
+import subprocess
+import sys
+from collections import Counter, namedtuple
+from pathlib import Path
+
+import second
+from inputs import Case, cases, digest, flipped, u32, u64
+from second import NODE
+
+TOP = Path(__file__).resolve().parent.parent
+ROUNDS = 8000
+
+# An answer: 01's number, the parts at return, and whether a byte beside them was changed.
+Answer = namedtuple("Answer", "number parts strayed")
+
+
+# ---- what the second program says of a call: the number, and the parts where it is done
+
+
+def say_digest(numbers, data, out):
+    return (6, None) if len(out) < NODE else (0, [data, digest(data) + out[NODE:]])
+
+
+def say_size(numbers, size):
+    number, value = second.size_of(*numbers)
+    return number, [u64(value)]
+
+
+def say_leaf_position(numbers, position):
+    number, value = second.leaf_position(*numbers)
+    return number, [u64(value)]
+
+
+def say_leaf_count(numbers, leaves):
+    number, value = second.leaf_count(*numbers)
+    return number, [u64(value)]
+
+
+def say_append(numbers, record, nodes, new_size, hashes):
+    buffer = bytearray(nodes)
+    answer = second.append(*numbers, record, buffer, digest)
+    return answer.number, [record, bytes(buffer), u64(answer.size), u64(answer.count)]
+
+
+def say_root(numbers, nodes, out):
+    number, top = second.root(*numbers, nodes, digest)
+    if number == 0 and len(out) < NODE:
+        number = 6
+    return number, [nodes, top + out[NODE:]]
+
+
+def say_letter_write(numbers, record, nodes, out, length):
+    buffer = bytearray(out)
+    answer = second.write_letter(*numbers, record, nodes, buffer, digest)
+    return answer.number, [record, nodes, bytes(buffer), u64(answer.length)]
+
+
+def say_letter_check(numbers, top, letter, index, record_at, record_len):
+    answer = second.check_letter(*numbers, top, letter, digest)
+    return answer.number, [top, letter, u64(answer.index), u64(answer.start), u64(answer.length)]
+
+
+def say_find(numbers, nodes, record, letter, log_input, letter_input, found):
+    ours, theirs = bytearray(log_input), bytearray(letter_input)
+    answer = second.find(*numbers, record, nodes, letter, ours, theirs, digest)
+    kind = {None: 0, "same": 1, "records": 2, "pair": 3}[answer.outcome]
+    return answer.number, [nodes, record, letter, bytes(ours), bytes(theirs), u32(kind)]
+
+
+def say_store_leaf(numbers, record, out, length):
+    buffer = bytearray(out)
+    number, written = second.write_stored_leaf(record, buffer)
+    return number, [record, bytes(buffer), u64(written)]
+
+
+def say_store_inner(numbers, given, out, length):
+    buffer = bytearray(out)
+    number, written = (12, 0) if len(given) != NODE else second.write_stored_inner(given, buffer)
+    return number, [given, bytes(buffer), u64(written)]
+
+
+def say_read_node(numbers, data, kind, out, record_at, record_len):
+    read = second.read_stored(data)
+    number = 6 if read.number == 0 and len(out) < NODE else read.number
+    leaf = read.kind == "leaf"
+    return number, [data, u32(leaf), read.digest + out[NODE:], u64(37 if leaf else 0), u64(len(read.record))]
+
+
+# A call: what the second program says of it, and the numbers of its order that an input can have. 15 is none: no size and index needs so many items.
+Call = namedtuple("Call", "say order")
+CALLS = {
+    "digest": Call(say_digest, (0, 6)),
+    "size": Call(say_size, (0, 2)),
+    "leaf_position": Call(say_leaf_position, (0, 5)),
+    "leaf_count": Call(say_leaf_count, (0, 1)),
+    "append": Call(say_append, (0, 1, 2, 3, 4)),
+    "root": Call(say_root, (0, 1, 10, 4, 6)),
+    "letter_write": Call(say_letter_write, (0, 1, 5, 3, 4, 13, 6)),
+    "letter_check": Call(say_letter_check, (0, 1, 12, 7, 8, 5, 3, 9)),
+    "find": Call(say_find, (0, 1, 10, 4, 7, 8, 5, 3, 9, 13, 14, 6)),
+    "store_leaf": Call(say_store_leaf, (0, 3, 6)),
+    "store_inner": Call(say_store_inner, (0, 12, 6)),
+    "read_node": Call(say_read_node, (0, 11, 3, 6)),
+}
+# What the parts are called in a report.
+NAMES = {name: call.say.__code__.co_varnames[1:call.say.__code__.co_argcount] for name, call in CALLS.items()}
+
+
+def said(case):
+    """The answer of the second program. A refusal leaves every part as it was."""
+    number, parts = CALLS[case.call].say(case.numbers, *case.parts)
+    return Answer(number, list(case.parts) if number != 0 else parts, False)
+
+
+# ---- the library's answer
+
+
+class Bridge:
+    """The bridge's program, kept running."""
+
+    def __init__(self, program):
+        self.running = subprocess.Popen([program], stdin=subprocess.PIPE, stdout=subprocess.PIPE)
+
+    def ask(self, at, case):
+        """The answer of the library, or None where the program has ended. The case's number decides on the placing of the parts."""
+        numbers = [*case.numbers, 0, 0][:2]
+        head = struct.pack("<16sBB2Q", case.call.encode(), at % 4, len(case.parts), *numbers)
+        lengths = struct.pack(f"<{len(case.parts)}I", *map(len, case.parts))
+        try:
+            self.running.stdin.write(head + lengths + b"".join(case.parts))
+            self.running.stdin.flush()
+        except BrokenPipeError:
+            return None
+        start, *parts = [self.running.stdout.read(length) for length in (5, *map(len, case.parts))]
+        if len(start) < 5:
+            return None
+        strayed, number = struct.unpack("<BI", start)
+        return Answer(number, parts, strayed != 0)
+
+    def close(self):
+        """End the program; its exit status."""
+        try:
+            self.running.stdin.close()
+        except BrokenPipeError:
+            pass
+        return self.running.wait()
+
+
+# ---- comparing
+
+
+def short(data):
+    """Bytes in hexadecimal, the middle of many left out."""
+    digits = data.hex() or "none"
+    return digits if len(digits) <= 160 else f"{digits[:120]}..{digits[-20:]} ({len(data)} bytes)"
+
+
+def differences(case, ours, theirs):
+    """What differs between the library's answer and the second program's, a line each."""
+    if ours is None:
+        return ["the library ended the bridge: it read or wrote what it was not lent, or wrote to what it only reads"]
+    lines = [] if ours.number == theirs.number else [f"number: {ours.number} from C, {theirs.number} from the second program"]
+    for name, got, wanted in zip(NAMES.get(case.call, ("part",)), ours.parts, theirs.parts):
+        if got != wanted:
+            first = next((i for i, pair in enumerate(zip(got, wanted)) if pair[0] != pair[1]), min(len(got), len(wanted)))
+            lines.append(f"{name}, from byte {first}: {short(got[first:])} from C, {short(wanted[first:])} from the second program")
+    return lines + (["a byte beside what was lent was changed"] if ours.strayed else [])
+
+
+def lines_of(case, whole):
+    """The inputs of a case."""
+    yield f"  numbers: {' '.join(map(str, case.numbers)) or 'none'}"
+    for name, part in zip(NAMES.get(case.call, ("part",)), case.parts):
+        yield f"  {name}, {len(part)} bytes: {part.hex() if whole else short(part)}"
+
+
+def made_wrong(answer, place):
+    """An answer with one bit changed: of the number, or of a part that has bytes."""
+    if place == 0:
+        return answer._replace(number=answer.number ^ 1)
+    parts = list(answer.parts)
+    parts[place - 1] = flipped(parts[place - 1], len(parts[place - 1]) // 2)
+    return answer._replace(parts=parts)
+
+
+def reported(given, at, case, lines):
+    """Whether the two answers differ; then the case is printed."""
+    if lines:
+        print(f"outside: keeper_{case.call}, case {at} of seed {given.seed}: the answers differ")
+        print("\n".join([*(f"  {line}" for line in lines), "what was given:", *lines_of(case, given.only is not None)]))
+        print(f"once more, with all bytes: tools/outside.py --seed {given.seed} --rounds {given.rounds} --only {at}")
+    return bool(lines)
+
+
+def wrong_answers(right):
+    """The answer made wrong at each place in turn."""
+    return [made_wrong(right, place) for place in [0] + [1 + i for i, part in enumerate(right.parts) if part]]
+
+
+def self_test(bridge, given):
+    """For each call one case of each number: every part of the second program's answer made wrong in turn, and each wrong answer noticed."""
+    noticed, seen = [], set()
+    for at, case in enumerate(cases(given.seed, 0)):
+        right = said(case)
+        if (case.call, right.number) not in seen:
+            seen.add((case.call, right.number))
+            ours = bridge.ask(at, case)
+            if reported(given, at, case, differences(case, ours, right)):
+                return False
+            noticed += [bool(differences(case, ours, wrong)) for wrong in wrong_answers(right)]
+    for at in range(2):
+        case = Case("stray", (), [b"lent"])
+        noticed.append(bool(differences(case, bridge.ask(at, case), Answer(0, [b"lent"], False))))
+    print(f"outside: {noticed.count(True)} of {len(noticed)} wrong answers are noticed")
+    return all(noticed)
+
+
+def table(counts):
+    """How many answers of each call and number were compared."""
+    for name in CALLS:
+        row = {number: count for (call, number), count in counts.items() if call == name}
+        yield f"{'keeper_' + name:22}{sum(row.values()):6}   " + "  ".join(f"{number}: {row[number]}" for number in sorted(row))
+
+
+def compare(bridge, given):
+    """Every case of the seed, up to the first difference; then the table."""
+    counts = Counter()
+    for at, case in enumerate(cases(given.seed, given.rounds)):
+        if given.only not in (None, at):
+            continue
+        theirs = said(case)
+        if at == given.wrong:
+            theirs = made_wrong(theirs, 0)
+        if reported(given, at, case, differences(case, bridge.ask(at, case), theirs)):
+            return False
+        counts[case.call, theirs.number] += 1
+        if given.only is not None:
+            print("\n".join([f"keeper_{case.call}, case {at} of seed {given.seed}: both answer {theirs.number}", *lines_of(case, True)]))
+    return finish(counts, given)
+
+
+def finish(counts, given):
+    """The table, and whether every number that an input can have was met."""
+    if given.only is not None:
+        return sum(counts.values()) == 1
+    print("\n".join(table(counts)))
+    unmet = [f"keeper_{name} {number}" for name, call in CALLS.items() for number in call.order if not counts[name, number]]
+    print(f"outside: {sum(counts.values())} answers of seed {given.seed} are the same" + "".join(f"\n  never met: {line}" for line in unmet))
+    return not unmet
+
+
+def build():
+    """The bridge's program, built where it has to be."""
+    if subprocess.run([TOP / "hosts" / "build.sh"], stdout=sys.stderr, check=False).returncode != 0:
+        sys.exit(2)
+    return TOP / "target" / "hosts" / "bridge"
+
+
+def main():
+    parser = argparse.ArgumentParser(description=__doc__, formatter_class=argparse.RawDescriptionHelpFormatter)
+    parser.add_argument("--seed", type=int, default=1, help="the seed of the random cases")
+    parser.add_argument("--rounds", type=int, default=ROUNDS, help="how many random cases")
+    parser.add_argument("--only", type=int, help="this case alone, with all its bytes")
+    parser.add_argument("--self-test", action="store_true", help="only try that wrong answers are noticed")
+    parser.add_argument("--wrong", type=int, help="the second program answers this case wrongly")
+    parser.add_argument("--bridge", help="a bridge that is built already")
+    given = parser.parse_args()
+    bridge = Bridge(given.bridge or build())
+    good = given.only is not None or self_test(bridge, given)
+    if good and not given.self_test:
+        good = compare(bridge, given)
+    return bridge.close() == 0 and good
+
+
+if __name__ == "__main__":
+    sys.exit(0 if main() else 1)
