@@ -1,7 +1,8 @@
 /* The keeper's calls, as C sees them, in libkeeper.a (rt staticlib keeper).
    A lent slice is two arguments, a pointer and a length in bytes. The caller owes that each pointer is good for its bytes, and that what a
    call writes overlaps nothing else that it is lent. Each call returns a number: KEEPER_DONE, or the first refusal that applies, in the order
-   that stands at the call. A refusal changes no lent byte and no result. Nothing checks this file against crates/keeper/src/lib.rt. */
+   that stands at the call. A refusal changes no lent byte and no result. No proof compares this file with crates/keeper/src/lib.rt;
+   tools/outside.py calls every function by it. */
 #ifndef KEEPER_H
 #define KEEPER_H
 #include <stddef.h>
