@@ -4,15 +4,14 @@ use mathlib.Core.Logic.{_≢_}
 use mathlib.Core.List.{List, _∷_, _++_, List-discrete}
 use Prim.Native.Nat.{ℕ, zero, suc}
 use native.Mathlib.Decide.{ℕ-discrete}
-use native.Mathlib.Omega.{arith}
 use lib.ListN.{length, take, drop}
 use lib.Seq.{take-at, drop-at}
 use Rattle.wire.specs.Runs.{differ}
 use Rattle.wire.proofs.Differences.{differ-same, differ-other, same-of-differ}
 use Rattle.shape.specs.Differ as difference
-use Rattle.shape.specs.Differ.{Diff, agree}
+use Rattle.shape.specs.Differ.{Diff}
 use Rattle.shape.proofs.Differs.{differ-same as first-same, differ-other as first-other}
-use Rattle.finder.specs.Walks.{above}
+use Rattle.finder.specs.Steps.{above}
 
 -- two inputs that are the same have the same halves
 module _ (l r x y : List ℕ) (n : length l ≡ length x) (e : l ++ r ≡ x ++ y) where

@@ -1,30 +1,25 @@
 -- A fork above a walk: what stands on top of it, and what is found there and below. The left side has 2 ^ g leaves.
-use mathlib.Core.Path.{_≡_, refl, sym, ap, ap₂, _∙_}
+use mathlib.Core.Path.{_≡_, sym, ap, ap₂, _∙_}
 use mathlib.Core.Logic.{by-cases}
-use mathlib.Core.List.{List, [], _∷_, _++_}
-use Prim.Native.Nat.{ℕ, zero, suc, _+_, _-_, _*_, _^_, _≤_, _<_}
+use mathlib.Core.List.{List, _∷_, _++_}
+use Prim.Native.Nat.{ℕ, suc, _+_, _-_, _*_, _^_, _≤_, _<_}
 use native.Mathlib.Decide.{ℕ-discrete}
 use native.Mathlib.Omega.{arith}
 use borrow.Author.Tests.{eq-eqb, ne-eqb}
 use lib.ListN.{length}
-use Rattle.wire.specs.Runs.{part, differ}
+use Rattle.wire.specs.Runs.{differ}
 use Rattle.digest.specs.Digest.{digestOf}
-use Rattle.shape.specs.Tree.{left, right, past, root, inputs}
+use Rattle.shape.specs.Tree.{left, right, root, inputs}
 use Rattle.shape.specs.Letter.{wayIn}
 use Rattle.shape.specs.Positions.{top, behind, peaksIn, fold}
 use Rattle.shape.specs.Differ as difference
-use Rattle.shape.specs.Seen.{either, sides, seenIn, brokenIn}
-use Rattle.shape.proofs.Ways.{way-low, way-left, way-right, way-past}
-use Rattle.shape.proofs.Peaks.{peaks-low}
-use Rattle.shape.proofs.Seen.{seen-low, seen-left, seen-right, top-full, top-fold, topDiffers, broken-low, broken-left, broken-right}
-use Rattle.log.specs.Nodes.{nodeIn, foldFrom}
-use Rattle.log.proofs.From.{from-any}
-use Rattle.letter.proofs.Sides.{side-left, side-right, side-past}
+use Rattle.shape.specs.Seen.{sides, seenIn}
+use Rattle.shape.proofs.Seen.{top-full, top-fold}
+use Rattle.log.specs.Nodes.{nodeIn}
 use Rattle.finder.specs.declared.difference.Input.{Input}
 use Rattle.finder.specs.declared.walk.Trail.{Trail}
-use Rattle.finder.specs.Walks.{bytesOf, above, told, brokenBy, crown, Joined, lettered, Walked}
+use Rattle.finder.specs.Steps.{bytesOf, above, told, crown, Joined, lettered, Walked}
 use Rattle.finder.proofs.Differences.{above-is}
-use Rattle.finder.proofs.Inputs.{inputs-left, inputs-right, inputs-past}
 
 module _ (bs : List ℕ) (g n s : ℕ) (p : 2 ^ g < n) (q : n ≤ 2 ^ suc g) where
   -- where the right side begins, as the code works it out
@@ -41,23 +36,21 @@ module _ (bs : List ℕ) (g n s : ℕ) (p : 2 ^ g < n) (q : n ≤ 2 ^ suc g) whe
       (λ e. rw (ne-eqb (n - 2 ^ g) (2 ^ g) e, crown) (sym (top-fold digestOf (nodeIn bs) g n s p (omega arith))))
 
   -- the two sides, as the code reads them
-  pub sides-are : (ours : Input) → ours .left .bytes ≡ nodeIn bs (mid - 1) → ours .right .bytes ≡ fold digestOf (nodeIn bs) (peaksIn (suc g) (n - 2 ^ g) mid)
-      → bytesOf ours ≡ sides digestOf (nodeIn bs) g n s
+  pub sides-are : (ours : Input) → ours .left .bytes ≡ nodeIn bs (mid - 1)
+      → ours .right .bytes ≡ fold digestOf (nodeIn bs) (peaksIn (suc g) (n - 2 ^ g) mid) → bytesOf ours ≡ sides digestOf (nodeIn bs) g n s
   sides-are ours el er =
       let t : mid - 1 ≡ top g s = omega arith in
       let b : mid ≡ behind g s = omega arith in
       ap₂ (λ (x y : List ℕ). x ++ y) (el ∙ ap (nodeIn bs) t)
       (er ∙ ap (λ (m : ℕ). fold digestOf (nodeIn bs) (peaksIn (suc g) (n - 2 ^ g) m)) b)
 
-  module _ (i : ℕ) (leaf : List ℕ) (from : ℕ) (items : List ℕ) (low w : Trail) (ours theirs : Input) (logs letters : List (List ℕ)) (under : ℕ)
+  module _ (i : ℕ) (leaf : List ℕ) (from : ℕ) (items : List ℕ) (low w : Trail) (ours theirs : Input) (logs letters : List (List ℕ))
       (eo : bytesOf ours ≡ sides digestOf (nodeIn bs) g n s)
       (es : seenIn digestOf (nodeIn bs) (suc g) n i s ≡ sides digestOf (nodeIn bs) g n s ∷ logs)
-      (eb : brokenIn digestOf (nodeIn bs) (suc (suc g)) n i s ≡ either (topDiffers digestOf (nodeIn bs) g n s) under)
       (up : (w .used ≡ length (wayIn (suc g) n i)) × (w .letter .bytes ≡ root digestOf (lettered (suc g) n i leaf from items)))
       (ei : inputs digestOf (lettered (suc g) n i leaf from items) ≡ bytesOf theirs ∷ letters)
-      (lb : brokenBy low ≡ under)
       (lf : told (low .difference) ≡ difference.differ logs letters)
-      (j : Joined low (crown bs (2 ^ g) (n - 2 ^ g) mid (digestOf (bytesOf ours))) (digestOf (bytesOf ours)) ours theirs w) where
+      (j : Joined low (crown bs (2 ^ g) (n - 2 ^ g) mid (digestOf (bytesOf ours))) ours theirs w) where
     crowned : crown bs (2 ^ g) (n - 2 ^ g) mid (digestOf (bytesOf ours)) ≡ fold digestOf (nodeIn bs) (peaksIn (suc (suc g)) n s)
     crowned = ap (λ (x : List ℕ). crown bs (2 ^ g) (n - 2 ^ g) mid (digestOf x)) eo ∙ crown-is
 
@@ -67,7 +60,6 @@ module _ (bs : List ℕ) (g n s : ℕ) (p : 2 ^ g < n) (q : n ≤ 2 ^ suc g) whe
           used = up .0;
           log = j .log ∙ crowned;
           letter = up .1;
-          broken = j .broken ∙ ap₂ either (ap₂ differ crowned (ap digestOf eo)) lb ∙ sym eb;
           first =
               j .first
               ∙ ap (above (differ (bytesOf ours) (bytesOf theirs)) (bytesOf ours) (bytesOf theirs)) lf

@@ -2,7 +2,7 @@
 use mathlib.Core.Path.{_≡_, sym, ap, ap₂, _∙_}
 use mathlib.Core.Logic.{_≢_}
 use mathlib.Core.List.{List, [], _∷_}
-use Prim.Native.Nat.{ℕ, _+_, _-_, _<_, _≤_, _^_}
+use Prim.Native.Nat.{ℕ, _+_, _-_, _<_}
 use native.Mathlib.Omega.{arith}
 use lib.ListN.{length, take, drop}
 use Rattle.digest.specs.Digest.{digestOf}
@@ -20,17 +20,16 @@ use Rattle.letter.specs.Bytes.{indexIn, recordIn, digestsFrom, itemsIn}
 use Rattle.letter.specs.Items.{itemCount, treeOf, letterTree, workedRoot}
 use Rattle.letter.specs.Order.{fields, fieldsOrder, fieldsOutcome}
 use Rattle.letter.proofs.Apart.{Apart, apart-number, record-slice, items-slice}
-use Rattle.finder.specs.Outcome.{FindOutcome, findRefused, findDone, ownRoot, roomOrder, ownOrder}
-use Rattle.finder.specs.Walks.{againstOutcome}
-use Rattle.finder.proofs.Parts.{rootDiffers, settled}
+use Rattle.finder.specs.Outcome.{FindOutcome, findRefused, settled, ownRoot, ownOrder}
+use Rattle.finder.specs.Steps.{againstOutcome}
+use Rattle.finder.proofs.Parts.{rootDiffers, last}
 
 -- what is compared with a tree and a record
 comparing : List ℕ → ℕ → ℕ → List ℕ → List ℕ → Tree → List ℕ → List ℕ → FindOutcome
 comparing bs n i rec theirs t one two =
     verdict (findRefused one two) (9 if differ (ownRoot digestOf n bs) (root digestOf t) is-not 0 ∷ [])
     (verdict (findRefused one two) (ownOrder digestOf n bs rec i)
-    (verdict (findRefused one two) (roomOrder one two)
-    (findDone (difference.differ (seen digestOf (nodeIn bs) n i) (inputs digestOf t)) (differ rec theirs) one two)))
+    (settled (difference.differ (seen digestOf (nodeIn bs) n i) (inputs digestOf t)) (differ rec theirs) one two))
 
 module _ {size n : ℕ} (letter : List ℕ) {r : Fields} (count : Counts size n) (e : fields r ≡ fieldsOutcome size n letter) where
   -- its record and its items, as slices
@@ -59,7 +58,7 @@ module _ {size n : ℕ} (letter : List ℕ) {r : Fields} (count : Counts size n)
     pub formed : (bs rec one two : List ℕ) {x : FindOutcome}
         → x ≡ againstOutcome bs n (r .index) rec record-part items-part one two
         → x ≡ verdict (findRefused one two) (rootDiffers digestOf size bs rec letter one two)
-        (verdict (findRefused one two) (ownOrder digestOf (leaves size) bs rec (indexIn letter)) (settled digestOf size bs rec letter one two))
+        (verdict (findRefused one two) (ownOrder digestOf (leaves size) bs rec (indexIn letter)) (last digestOf size bs rec letter one two))
     unfolding againstOutcome comparing workedRoot
     formed bs rec one two f =
         f

@@ -1,5 +1,5 @@
 -- What a letter hashes at a turn and below it: the input of the turn, then those of the rest of the way.
-use mathlib.Core.Path.{_≡_, sym, ap, ap₂, _∙_}
+use mathlib.Core.Path.{_≡_, ap, ap₂, _∙_}
 use mathlib.Core.List.{List, [], _∷_, _++_, append-nil}
 use Prim.Native.Nat.{ℕ, suc, _+_, _*_}
 use native.Mathlib.Omega.{arith}
@@ -53,5 +53,6 @@ module _ (leaf : List ℕ) (bs : List ℕ) where
         → inputs digestOf (treeBy v from) ≡ (side ++ low) ∷ inputs digestOf (treeBy w (from + 1))
     inputs-past e el es =
         ap (λ (t : List Turn). inputs digestOf (treeBy t from)) e
-        ∙ ap₂ (λ (xs : List (List ℕ)) (x : List ℕ). inputs digestOf (fork (tip x) (fill w leaf xs))) (but-first w from) (digests-first (32 * from) (length w) bs)
+        ∙ ap₂ (λ (xs : List (List ℕ)) (x : List ℕ). inputs digestOf (fork (tip x) (fill w leaf xs)))
+        (but-first w from) (digests-first (32 * from) (length w) bs)
         ∙ rw (el, es)

@@ -5,8 +5,9 @@ pub mod Differences
 pub mod Lists
 pub mod Settled
 pub mod Inputs
-pub mod Broken
 pub mod Forks
 pub mod Turning
 pub mod Whole
 pub mod Formed
+pub mod Breaking
+pub mod Agreed

@@ -1,6 +1,6 @@
 -- Two given lists of inputs compared from the last input up, and an input put over the first bytes of a buffer.
-use mathlib.Core.Path.{_≡_, refl, sym, ap, ap₂, _∙_}
-use mathlib.Core.List.{List, [], _∷_, _++_}
+use mathlib.Core.Path.{_≡_, sym, ap, ap₂, _∙_}
+use mathlib.Core.List.{List, _∷_, _++_}
 use Prim.Native.Nat.{ℕ, suc, _+_, _-_, _*_, _^_, _≤_, _<_}
 use native.Mathlib.Omega.{arith}
 use lib.ListN.{length}
@@ -11,7 +11,7 @@ use Rattle.shape.specs.Differ.{agree}
 use Rattle.finder.specs.declared.difference.Input.{Input}
 use Rattle.finder.specs.declared.difference.Difference.{Difference}
 use Rattle.finder.specs.Outcome.{inputsFrom, inBoth, givenDifference}
-use Rattle.finder.specs.Walks.{bytesOf, above, told}
+use Rattle.finder.specs.Steps.{bytesOf, above, told}
 use Rattle.finder.proofs.Differences.{above-is}
 
 -- the first difference of the inputs from number k on, of m

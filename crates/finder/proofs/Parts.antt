@@ -1,6 +1,5 @@
 -- The finder's order in its parts: the outcome goes through one after the other, and no refusal applies where none of any part does.
-use mathlib.Core.Path.{_≡_, refl, sym, ap, _∙_}
-use mathlib.Core.Bool.{true}
+use mathlib.Core.Path.{_≡_, ap, _∙_}
 use mathlib.Core.List.{List, [], _∷_, _++_}
 use Prim.Native.Nat.{ℕ}
 use lib.Dec.{T}
@@ -11,7 +10,8 @@ use Rattle.log.specs.Outcomes.{leaves, rootOrder}
 use Rattle.letter.specs.Bytes.{indexIn, recordIn}
 use Rattle.letter.specs.Items.{workedRoot}
 use Rattle.letter.specs.Order.{fieldsOrder, from7}
-use Rattle.finder.specs.Outcome.{FindOutcome, findRefused, findDone, ownRoot, firstDifference, roomOrder, ownOrder, findOrder, findOutcome}
+use Rattle.finder.specs.Outcome.{FindOutcome, findRefused, findDone, roomOrder, settled}
+use Rattle.finder.specs.Outcome.{ownRoot, firstDifference, ownOrder, findOrder, findOutcome}
 
 pass-both : (xs ys : List Refusal) → Passes (xs ++ ys) → Passes xs × Passes ys
 pass-both [] ys p = (tt, p)
@@ -37,24 +37,22 @@ module _ (digest : List ℕ → List ℕ) (size : ℕ) (bs rec letter first seco
   abbrev pub rootDiffers : List Refusal
   rootDiffers = 9 if differ (ownRoot digest n bs) (workedRoot digest n letter) is-not 0 ∷ []
 
-  -- where nothing is left to refuse but a buffer
-  abbrev pub settled : FindOutcome
-  settled =
-      verdict (findRefused first second) (roomOrder first second)
-      (findDone (firstDifference digest n bs letter) (differ rec (recordIn letter)) first second)
+  -- the last part, and what is done
+  abbrev pub last : FindOutcome
+  last = settled (firstDifference digest n bs letter) (differ rec (recordIn letter)) first second
 
   pub find-parts : findOutcome digest size bs rec letter first second
       ≡ verdict (findRefused first second) (rootOrder size bs)
       (verdict (findRefused first second) (fieldsOrder size n letter)
-      (verdict (findRefused first second) rootDiffers (verdict (findRefused first second) own settled)))
+      (verdict (findRefused first second) rootDiffers (verdict (findRefused first second) own last)))
   unfolding findOutcome findOrder from7
   find-parts =
       let R = findRefused first second in
       let done = findDone (firstDifference digest n bs letter) (differ rec (recordIn letter)) first second in
       verdict-append R (rootOrder size bs ++ checking ++ own) (roomOrder first second) done
-      ∙ verdict-append R (rootOrder size bs ++ checking) own settled
-      ∙ verdict-append R (rootOrder size bs) checking (verdict R own settled)
-      ∙ ap (verdict R (rootOrder size bs)) (verdict-append R (fieldsOrder size n letter) rootDiffers (verdict R own settled))
+      ∙ verdict-append R (rootOrder size bs ++ checking) own last
+      ∙ verdict-append R (rootOrder size bs) checking (verdict R own last)
+      ∙ ap (verdict R (rootOrder size bs)) (verdict-append R (fieldsOrder size n letter) rootDiffers (verdict R own last))
 
   -- what passes the whole passes the checking order
   pub find-checked : Passes (findOrder digest size bs rec letter first second) → Passes checking

@@ -1,13 +1,18 @@
--- The finder's answer, once nothing refuses: by a difference, and with none by the records.
-use mathlib.Core.Path.{_≡_, refl}
+-- The finder's answer: a refusal; and once nothing refuses, by a difference, and with none by the records.
+use mathlib.Core.Path.{_≡_, refl, ap}
 use mathlib.Core.Logic.{_≢_}
 use mathlib.Core.List.{List}
 use Prim.Native.Nat.{ℕ, zero, suc}
 use Rattle.wire.specs.Runs.{splice}
 use Rattle.shape.specs.Differ.{agree}
+use Rattle.finder.specs.declared.Finding.the-variants.{Nothing}
+use Rattle.finder.specs.declared.Found.{Found}
 use Rattle.finder.specs.declared.difference.Difference.{Difference}
-use Rattle.finder.specs.Outcome.{same, records, pair, findDone}
-use Rattle.finder.specs.Walks.{bytesOf, above, told}
+use Rattle.finder.specs.Outcome.{same, records, pair, found, findRefused, findDone}
+use Rattle.finder.specs.Steps.{bytesOf, above, told}
+
+pub refused-as : (one two : List ℕ) (k : ℕ) {r : Found} → r ≡ record { number = k; finding = Nothing } → found r one two ≡ findRefused one two k
+refused-as one two k e = ap (λ (r : Found). found r one two) e
 
 -- the two inputs are written
 pub done-pair : (d : Difference) (m : ℕ) (first second : List ℕ) {x y : List ℕ} → d .apart ≢ 0
@@ -15,8 +20,8 @@ pub done-pair : (d : Difference) (m : ℕ) (first second : List ℕ) {x y : List
     → record { number = 0; answer = pair; first = x; second = y } ≡ findDone (told d) m first second
 done-pair d m first second {x} {y} h e f = by (d .apart) h
   where
-    by : (k : ℕ) → k ≢ 0
-        → record { number = 0; answer = pair; first = x; second = y } ≡ findDone (above k (bytesOf (d .ours)) (bytesOf (d .theirs)) agree) m first second
+    by : (k : ℕ) → k ≢ 0 → record { number = 0; answer = pair; first = x; second = y }
+        ≡ findDone (above k (bytesOf (d .ours)) (bytesOf (d .theirs)) agree) m first second
     by zero z = absurd (z refl)
     by (suc k) z = rw (e, f)
 

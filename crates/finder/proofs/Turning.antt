@@ -1,30 +1,29 @@
 -- The walk, one height after the other: the room that each call has, and what is found with one more turn above. `half` stands for 2 ^ (h - 1) as
 -- the code has it.
-use mathlib.Core.Path.{_≡_, refl, sym, ap, ap₂, _∙_, subst}
-use mathlib.Core.List.{List, [], _∷_, _++_}
+use mathlib.Core.Path.{_≡_, refl, sym, ap, _∙_, subst}
+use mathlib.Core.List.{List}
 use Prim.Native.Nat.{ℕ, zero, suc, _+_, _-_, _*_, _%_, _^_, _≤_, _<_}
 use native.Mathlib.Nat.{pow-suc}
 use native.Mathlib.Omega.{arith}
 use lib.ListN.{length}
 use lib.Pow.{pow-pos, pow-mono}
 use Rattle.digest.specs.Digest.{digestOf}
-use Rattle.shape.specs.Tree.{Tree, Turn, left, right, past, root, inputs}
+use Rattle.shape.specs.Tree.{left, right, past}
 use Rattle.shape.specs.Letter.{wayIn}
 use Rattle.shape.specs.Positions.{top, behind, peaksIn, fold}
 use Rattle.shape.specs.Differ as difference
-use Rattle.shape.specs.Differ.{Diff, agree}
-use Rattle.shape.specs.Seen.{seenIn, brokenIn}
+use Rattle.shape.specs.Differ.{agree}
+use Rattle.shape.specs.Seen.{seenIn}
 use Rattle.shape.proofs.Powers.{power-small}
 use Rattle.shape.proofs.Ways.{way-low, way-left, way-right, way-past, way-most}
 use Rattle.shape.proofs.Peaks.{peaks-low, peaks-full}
-use Rattle.shape.proofs.Seen.{seen-low, seen-left, seen-right, broken-one, broken-low, broken-left, broken-right}
+use Rattle.shape.proofs.Seen.{seen-low, seen-left, seen-right}
 use Rattle.log.specs.Nodes.{nodeIn, foldFrom}
 use Rattle.log.proofs.From.{from-any}
-use Rattle.letter.proofs.ItemsOf.{node-length}
 use Rattle.letter.proofs.Sides.{side-left, side-right, side-past}
 use Rattle.finder.specs.declared.difference.Input.{Input}
 use Rattle.finder.specs.declared.walk.Trail.{Trail}
-use Rattle.finder.specs.Walks.{bytesOf, told, brokenBy, crown, Forkable, Joined, Walkable, lettered, Walked}
+use Rattle.finder.specs.Steps.{bytesOf, told, crown, Forkable, Joined, Walkable, Walked}
 use Rattle.finder.proofs.Inputs.{inputs-left, inputs-right, inputs-past}
 use Rattle.finder.proofs.Forks.{sides-are, walked}
 
@@ -84,26 +83,25 @@ module _ {h n i s from half : ℕ} (f : Above h n i s from half) where
         few = omega (arith, f .fits .few, f .some);
       }
 
+  pub top-room : Forkable half (s + (2 * half - 1)) 0
+  top-room = let b = half-bounds in record { some = b .0; few = b .1; past = omega arith; near = omega arith; used = omega arith }
+
   pub fork-room : {used : ℕ} (m j : ℕ) → used ≡ length (wayIn (h - 1) m j) → Forkable half (s + (2 * half - 1)) used
   fork-room m j e =
-      let b = half-bounds in
-      record { some = b .0; few = b .1; near = omega arith; used = omega (arith, way-most (h - 1) m j, f .fits .low) }
-
--- two digests that were read have one length
-pub read-lengths : {c d : List ℕ} (bs items : List ℕ) (p q : ℕ) → c ≡ nodeIn bs p → d ≡ nodeIn items q → length c ≡ length d
-read-lengths bs items p q e f = ap length e ∙ node-length bs p ∙ sym (ap length f ∙ node-length items q)
+      let t = top-room in
+      record { some = t .some; few = t .few; past = t .past; near = t .near; used = omega (arith, way-most (h - 1) m j, f .fits .low) }
 
 -- ---- what is found
 
 -- a law of g, h and half that holds at g, one above it, and 2 ^ g holds as the code has them
-as-coded : {h n i s from half : ℕ} → Above h n i s from half → (S : ℕ → ℕ → ℕ → Type 0) → ((g : ℕ) → S g (suc g) (2 ^ g)) → S (h - 1) h half
+pub as-coded : {h n i s from half : ℕ} → Above h n i s from half → (S : ℕ → ℕ → ℕ → Type 0) → ((g : ℕ) → S g (suc g) (2 ^ g)) → S (h - 1) h half
 as-coded {h = h} {half = half} f S law =
     subst (λ (k : ℕ). S (h - 1) k half) (height-below f) (subst (λ (x : ℕ). S (h - 1) (suc (h - 1)) x) (sym (half-is f)) (law (h - 1)))
 
 module _ (bs items leaf : List ℕ) (n i s from : ℕ) (low w : Trail) (ours theirs : Input) where
   -- a fork of half leaves and the rest
   abbrev Forked : ℕ → Type 0
-  Forked half = Joined low (crown bs half (n - half) (s + (2 * half - 1)) (digestOf (bytesOf ours))) (digestOf (bytesOf ours)) ours theirs w
+  Forked half = Joined low (crown bs half (n - half) (s + (2 * half - 1)) (digestOf (bytesOf ours))) ours theirs w
 
   abbrev LeftTurn : ℕ → ℕ → ℕ → Type 0
   LeftTurn g h half = Walkable h n i s from → half < n → i < half → Walked g half i s leaf from bs items low
@@ -117,18 +115,18 @@ module _ (bs items leaf : List ℕ) (n i s from : ℕ) (low w : Trail) (ours the
       let v = way-left g n i p q in
       let most : 2 ^ g ≤ 2 ^ 31 = pow-mono {i = g} {j = 31} (omega (arith, f .low)) in
       let r : ours .right .bytes ≡ fold digestOf (nodeIn bs) (peaksIn (suc g) (n - 2 ^ g) (s + (2 * 2 ^ g - 1))) =
-      er ∙ from-any digestOf bs (n - 2 ^ g) (s + (2 * 2 ^ g - 1)) g (omega (arith, f .most)) (omega arith) (omega (arith, f .most)) (omega (arith, f .near)) in
+      er ∙ from-any digestOf bs (n - 2 ^ g) (s + (2 * 2 ^ g - 1)) g
+      (omega (arith, f .most)) (omega arith) (omega (arith, f .most)) (omega (arith, f .near)) in
       let t : top g s ≡ s + (2 * 2 ^ g - 1) - 1 = omega arith in
       let l : ours .left .bytes ≡ nodeIn bs (s + (2 * 2 ^ g - 1) - 1) =
       el ∙ o .log ∙ ap (fold digestOf (nodeIn bs)) (peaks-full g (2 ^ g) s refl) ∙ ap (nodeIn bs) t in
       let d = side-left leaf items from v (o .used, tl ∙ o .letter) tr (j .used, j .letter) in
-      walked bs g n s p (f .most) i leaf from items low w ours theirs _ _ _
+      walked bs g n s p (f .most) i leaf from items low w ours theirs _ _
       (sides-are bs g n s p (f .most) ours l r)
       (seen-left digestOf (nodeIn bs) g n i s p q)
-      (broken-left digestOf (nodeIn bs) g n i s p (f .most) q)
       d
       (inputs-left leaf items from (low .used) _ _ _ _ v (o .used) (tl ∙ o .letter) tr)
-      (o .broken) (o .first) j
+      (o .first) j
 
   -- a walk to the right begins behind the left side
   right-walk : (g k : ℕ) → Walked g (n - 2 ^ g) (i - 2 ^ g) (s + (2 * 2 ^ g - 1)) leaf k bs items low
@@ -150,13 +148,12 @@ module _ (bs items leaf : List ℕ) (n i s from : ℕ) (low w : Trail) (ours the
       let v = way-right g n i (omega arith) q in
       let d = side-right leaf items from v (o .used, tr ∙ o .letter) tl (j .used, j .letter) in
       let u = right-walk g from o in
-      walked bs g n s p (f .most) i leaf from items low w ours theirs _ _ _
+      walked bs g n s p (f .most) i leaf from items low w ours theirs _ _
       (sides-are bs g n s p (f .most) ours el (er ∙ o .log))
       (seen-right digestOf (nodeIn bs) g n i s p q)
-      (broken-right digestOf (nodeIn bs) g n i s p (f .most) q (f .inside))
       d
       (inputs-right leaf items from (low .used) _ _ _ _ v (o .used) (tr ∙ o .letter) tl)
-      (u .broken) (u .first) j
+      (u .first) j
 
   abbrev PastTurn : ℕ → ℕ → ℕ → Type 0
   PastTurn g h half = Walkable h n i s from → half < n → half ≤ i → (n - half ≡ half → ⊥)
@@ -171,13 +168,12 @@ module _ (bs items leaf : List ℕ) (n i s from : ℕ) (low w : Trail) (ours the
       let v = way-past g n i p (omega (arith, f .most)) q in
       let d = side-past leaf items from v (o .used, tr ∙ o .letter) tl (j .used, j .letter) in
       let u = right-walk g (from + 1) o in
-      walked bs g n s p (f .most) i leaf from items low w ours theirs _ _ _
+      walked bs g n s p (f .most) i leaf from items low w ours theirs _ _
       (sides-are bs g n s p (f .most) ours el (er ∙ o .log))
       (seen-right digestOf (nodeIn bs) g n i s p q)
-      (broken-right digestOf (nodeIn bs) g n i s p (f .most) q (f .inside))
       d
       (inputs-past leaf items from (low .used) _ _ _ _ v (tr ∙ o .letter) tl)
-      (u .broken) (u .first) j
+      (u .first) j
 
   -- as the code has them
   module _ {h half : ℕ} (f : Above h n i s from half) where
@@ -202,7 +198,6 @@ module _ (bs items leaf : List ℕ) (n i s from : ℕ) (w : Trail) where
         used = rw e (o .used);
         log = rw (peaks-low g n s p) (o .log);
         letter = rw e (o .letter);
-        broken = rw (broken-low digestOf (nodeIn bs) g n i s p) (o .broken);
         first = rw (e, seen-low digestOf (nodeIn bs) g n i s p) (o .first);
       }
 
@@ -210,16 +205,15 @@ module _ (bs items leaf : List ℕ) (n i s from : ℕ) (w : Trail) where
   turned-low f = as-coded f LowTurn low-turn
 
   -- at no height there is one leaf
-  pub turned-none : (h : ℕ) → h ≡ 0 → Walkable h n i s from → w .used ≡ 0 → w .log .bytes ≡ nodeIn bs s → w .letter .bytes ≡ leaf → brokenBy w ≡ 0
+  pub turned-none : (h : ℕ) → h ≡ 0 → Walkable h n i s from → w .used ≡ 0 → w .log .bytes ≡ nodeIn bs s → w .letter .bytes ≡ leaf
       → told (w .difference) ≡ agree → Walked h n i s leaf from bs items w
   unfolding wayIn seenIn difference.differ
-  turned-none zero z f u l t b d =
+  turned-none zero z f u l t d =
       let e : top 0 s ≡ s = omega arith in
       record {
         used = u;
         log = rw (peaks-full 0 n s (omega (arith, f .inside, f .most)), e) l;
         letter = t;
-        broken = rw (broken-one digestOf (nodeIn bs) n i s (f .most) (f .inside)) b;
         first = d;
       }
-  turned-none (suc h) z f u l t b d = absurd (omega arith)
+  turned-none (suc h) z f u l t d = absurd (omega arith)

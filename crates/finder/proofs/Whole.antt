@@ -1,26 +1,30 @@
 -- The walk over a whole log: the room that it has, and what it finds, by the definitions that carry no height.
 use mathlib.Core.Path.{_≡_, sym, ap, ap₂, _∙_}
 use mathlib.Core.List.{List}
-use Prim.Native.Nat.{ℕ, suc, _*_, _^_, _≤_, _<_}
+use Prim.Native.Nat.{ℕ, suc, _^_, _≤_, _<_}
 use native.Mathlib.Omega.{arith}
 use lib.ListN.{length}
 use lib.Pow.{pow-mono}
-use Rattle.digest.specs.Digest.{digestOf}
+use Rattle.digest.specs.Digest.{digestOf, digest-length}
 use Rattle.wire.specs.Runs.{differ}
 use Rattle.wire.proofs.Differences.{same-of-differ}
 use Rattle.shape.specs.Sizes.{heightOf}
 use Rattle.shape.specs.Tree.{root, inputs}
-use Rattle.shape.specs.Letter.{wayIn, way}
+use Rattle.shape.specs.Letter.{way}
 use Rattle.shape.specs.Positions.{peaksIn, peaks, fold}
 use Rattle.shape.specs.Differ as difference
-use Rattle.shape.specs.Seen.{seenIn, seen, brokenIn, broken}
+use Rattle.shape.specs.Differ.{agree}
+use Rattle.shape.specs.Seen.{seenIn, seen, broken}
 use Rattle.shape.proofs.Heights.{height-holds, height-least}
 use Rattle.log.specs.Nodes.{nodeIn}
 use Rattle.letter.specs.Bytes.{digestsFrom}
 use Rattle.letter.specs.Items.{itemCount, treeOf}
+use Rattle.letter.proofs.Digests.{digests-length, digests-each}
+use Rattle.letter.proofs.ItemsOf.{node-length}
 use Rattle.finder.specs.declared.walk.Trail.{Trail}
 use Rattle.finder.specs.Outcome.{ownRoot}
-use Rattle.finder.specs.Walks.{told, brokenBy, lettered, Walkable, Walked}
+use Rattle.finder.specs.Steps.{told, lettered, Walkable, Walked}
+use Rattle.finder.proofs.Agreed.{agreed}
 
 -- no sum wraps
 pub whole-room : (h n i : ℕ) → h ≡ heightOf n → i < n → n ≤ 2 ^ 32 → Walkable h n i 0 0
@@ -33,7 +37,6 @@ whole-room h n i e p q =
 pub record Whole (bs : List ℕ) (n i : ℕ) (theirs items : List ℕ) (w : Trail) : Type 0 where
   pub log : w .log .bytes ≡ ownRoot digestOf n bs
   pub letter : w .letter .bytes ≡ root digestOf (treeOf digestOf n i theirs (digestsFrom 0 (itemCount n i) items))
-  pub broken-is : brokenBy w ≡ broken digestOf (nodeIn bs) n i
   pub first : told (w .difference)
       ≡ difference.differ (seen digestOf (nodeIn bs) n i) (inputs digestOf (treeOf digestOf n i theirs (digestsFrom 0 (itemCount n i) items)))
 
@@ -44,7 +47,6 @@ whole bs n i theirs items {h} {leaf} e l o =
     record {
       log = o .log ∙ ap (λ (k : ℕ). fold digestOf (nodeIn bs) (peaksIn (suc k) n 0)) e;
       letter = o .letter ∙ ap₂ (λ (k : ℕ) (x : List ℕ). root digestOf (lettered k n i x 0 items)) e l;
-      broken-is = o .broken ∙ ap (λ (k : ℕ). brokenIn digestOf (nodeIn bs) (suc k) n i 0) e;
       first =
           o .first
           ∙ ap₂ (λ (k : ℕ) (x : List ℕ). difference.differ (seenIn digestOf (nodeIn bs) k n i 0) (inputs digestOf (lettered k n i x 0 items))) e l;
@@ -54,3 +56,14 @@ whole bs n i theirs items {h} {leaf} e l o =
 pub same-digest : (rec theirs : List ℕ) {apart : ℕ} {leaf : List ℕ} → apart ≡ differ rec theirs → leaf ≡ digestOf theirs → apart ≡ 0
     → leaf ≡ digestOf rec
 same-digest rec theirs e l z = l ∙ ap digestOf (sym (same-of-differ rec theirs (sym e ∙ z)))
+
+-- where the two roots are one and no input differs, no node on the path is broken
+pub whole-sound : {bs : List ℕ} {n i : ℕ} {theirs items : List ℕ} {w : Trail} → Whole bs n i theirs items w → i < n
+    → w .log .bytes ≡ w .letter .bytes → w .difference .apart ≡ 0 → broken digestOf (nodeIn bs) n i ≡ 0
+unfolding itemCount
+whole-sound {bs} {n} {i} {theirs} {items} {w} k p e z =
+    let xs = digestsFrom 0 (length (way n i)) items in
+    let a : told (w .difference) ≡ agree = rw z in
+    agreed digestOf digest-length (nodeIn bs) (node-length bs) (digestOf theirs) (digest-length theirs) n i xs p
+    (digests-length 0 (length (way n i)) items) (digests-each 0 (length (way n i)) items)
+    (sym (k .first) ∙ a) (sym (k .log) ∙ e ∙ k .letter)

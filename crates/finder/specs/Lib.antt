@@ -1,3 +1,3 @@
 -- What the finder returns, and what the code's own steps are called.
 pub mod Outcome
-pub mod Walks
+pub mod Steps

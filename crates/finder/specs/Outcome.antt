@@ -62,6 +62,11 @@ findDone (difference.pair ours theirs) apart first second =
 unfoldable pub roomOrder : List ℕ → List ℕ → List Refusal
 roomOrder first second = 6 if length first under 64 ∷ 6 if length second under 64 ∷ []
 
+-- where no other refusal is left
+abbrev pub settled : Diff → ℕ → List ℕ → List ℕ → FindOutcome
+settled difference apart first second =
+    verdict (findRefused first second) (roomOrder first second) (findDone difference apart first second)
+
 module _ (digest : List ℕ → List ℕ) where
   -- the root of its own nodes
   abbrev pub ownRoot : ℕ → List ℕ → List ℕ
@@ -108,5 +113,4 @@ givenDifference ours theirs =
 
 -- two given lists of inputs and two given records compared as the finder does it, 6 tested whatever the outcome
 unfoldable pub compareOutcome : List ℕ → List ℕ → List ℕ → List ℕ → List ℕ → List ℕ → FindOutcome
-compareOutcome ours theirs rec other first second =
-    verdict (findRefused first second) (roomOrder first second) (findDone (givenDifference ours theirs) (differ rec other) first second)
+compareOutcome ours theirs rec other first second = settled (givenDifference ours theirs) (differ rec other) first second

@@ -4,7 +4,7 @@ ghost use Prim.Native.Nat.{_*_, _^_, _≤_};
 ghost use Rattle.wire.specs.Runs.{part, differ};
 ghost use Rattle.shape.specs.Differ.{agree};
 ghost use Rattle.finder.specs.Outcome.{inBoth, givenDifference};
-ghost use Rattle.finder.specs.Walks.{bytesOf, told, above};
+ghost use Rattle.finder.specs.Steps.{bytesOf, told, above};
 use digest::Digest;
 use log::fold;
 

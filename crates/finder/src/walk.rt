@@ -2,9 +2,8 @@
 ghost use mathlib.Core.Path.{_≡_};
 ghost use Prim.Native.Nat.{_^_, _≤_};
 ghost use Rattle.digest.specs.Digest.{digestOf};
-ghost use Rattle.shape.specs.Seen.{either};
 ghost use Rattle.log.specs.Nodes.{nodeIn};
-ghost use Rattle.finder.specs.Walks.{bytesOf, brokenBy, crown, Forkable, Joined, Walkable, Walked};
+ghost use Rattle.finder.specs.Steps.{bytesOf, crown, Forkable, Joined, Walkable, Walked};
 use crate::difference;
 use crate::difference::Difference;
 use crate::difference::Input;
@@ -12,19 +11,16 @@ use digest::Digest;
 use log::fold;
 
 // What the walk knows of a part of the tree: the digest on top of it by the log and by the letter, how many items the letter's took, and the first
-// difference of the inputs. Where `same` is 1, the two inputs on top are the same, and whether the node there isn't the digest of its two children is
-// left open: it is broken where it differs from the letter's digest. Whether any other node on the way is, is `broken`.
+// difference of the inputs.
 pub(crate) struct Trail {
     pub log: Digest,
     pub letter: Digest,
     pub used: u64,
-    pub same: u8,
-    pub broken: u8,
     pub difference: Difference,
 }
 
 // The digest at position p, or item number p.
-fn digest_at(bytes: &[u8], p: u64) -> Digest
+pub(crate) fn digest_at(bytes: &[u8], p: u64) -> Digest
     requires { ⌜ p ≤ 2 ^ 40 ⌝ }
     ensures { λ r. ⌜ r .bytes ≡ nodeIn (now (bytes .entry)) p ⌝ }
 {
@@ -32,38 +28,30 @@ fn digest_at(bytes: &[u8], p: u64) -> Digest
     Digest { bytes: digest }
 }
 
-// What stands on top of a fork whose right side begins at position mid: within a peak the node, above the peaks the digest of its input.
-fn crown(nodes: &[u8], half: u64, rest: u64, mid: u64, up: Digest) -> Digest
-    requires { ⌜ Forkable half mid 0 ⌝ }
-    ensures { λ r. ⌜ r .bytes ≡ crown (now (nodes .entry)) half rest mid (up .bytes) ⌝ }
+// What stands on top of a fork whose right side begins at position mid: within a peak the node, above the peaks the digest of the log's input, which
+// is the letter's where the two inputs are the same.
+fn crown(
+    nodes: &[u8],
+    half: u64,
+    rest: u64,
+    mid: u64,
+    ours: Input,
+    apart: u8,
+    letter: Digest,
+) -> Digest
+    requires { ⌜ Forkable half mid 0 × (apart ≡ 0 → letter .bytes ≡ digestOf (bytesOf ours)) ⌝ }
+    ensures { λ r. ⌜ r .bytes ≡ crown (now (nodes .entry)) half rest mid (digestOf (bytesOf ours)) ⌝ }
 {
     if rest == half {
         return digest_at(nodes, mid + (2 * half - 1));
     }
-    up
-}
-
-// 1 where one of two is, else 0.
-fn either(x: u8, y: u8) -> u8
-    ensures { λ r. ⌜ r ≡ either x y ⌝ }
-{
-    if x == 0 {
-        return y;
+    if apart == 0 {
+        return letter;
     }
-    1
+    digest::digest_of_pair(ours.left, ours.right)
 }
 
-// 1 where a node of a walk isn't the digest of its two children, else 0.
-fn broken_by(w: Trail) -> u8
-    ensures { λ r. ⌜ r ≡ brokenBy w ⌝ }
-{
-    if w.same == 0 {
-        return w.broken;
-    }
-    either(difference::digests_differ(w.log, w.letter), w.broken)
-}
-
-// One fork above a walk: what the log hashes there and what the letter hashes. Where these are the same, it is hashed once.
+// One fork above a walk: what the log hashes there and what the letter hashes.
 fn fork(
     nodes: &[u8],
     half: u64,
@@ -73,32 +61,17 @@ fn fork(
     ours: Input,
     theirs: Input,
 ) -> Trail
-    requires { ⌜ Forkable half mid (low .used) × (bytesOf ours ≡ bytesOf theirs → low .log .bytes ≡ low .letter .bytes) ⌝ }
-    ensures { λ w. ⌜ Joined low (crown (now (nodes .entry)) half rest mid (digestOf (bytesOf ours))) (digestOf (bytesOf ours)) ours theirs w ⌝ }
+    requires { ⌜ Forkable half mid (low .used) ⌝ }
+    ensures { λ w. ⌜ Joined low (crown (now (nodes .entry)) half rest mid (digestOf (bytesOf ours))) ours theirs w ⌝ }
 {
-    let up = digest::digest_of_pair(ours.left, ours.right);
-    let log = crown(nodes, half, rest, mid, up);
-    let used = low.used + 1;
     let apart = difference::inputs_differ(ours, theirs);
     let first = difference::higher(low.difference, apart, ours, theirs);
-    if apart == 0 {
-        return Trail {
-            log,
-            letter: up,
-            used,
-            same: 1,
-            broken: low.broken,
-            difference: first,
-        };
-    }
     let letter = digest::digest_of_pair(theirs.left, theirs.right);
-    let broken = either(difference::digests_differ(log, up), broken_by(low));
+    let log = crown(nodes, half, rest, mid, ours, apart, letter);
     Trail {
         log,
         letter,
-        used,
-        same: 0,
-        broken,
+        used: low.used + 1,
         difference: first,
     }
 }
@@ -122,8 +95,6 @@ pub(crate) fn walk(
             log: digest_at(nodes, s),
             letter: leaf,
             used: 0,
-            same: 0,
-            broken: 0,
             difference: difference::agreement(),
         };
     }

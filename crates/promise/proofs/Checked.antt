@@ -1,24 +1,23 @@
 -- What a letter has that checking accepts, over any digest function; and that our letters have it.
-use mathlib.Core.Path.{_≡_, refl, sym, ap, ap₂, _∙_}
-use mathlib.Core.List.{List, map, _++_}
+use mathlib.Core.Path.{_≡_, refl, sym, ap, _∙_}
+use mathlib.Core.List.{List, map}
 use Prim.Native.Nat.{ℕ, _≤_, _<_}
 use native.Mathlib.Omega.{arith}
 use borrow.Author.Needs.{needs}
 use lib.ListN.{length}
-use Rattle.order.proofs.Laws.{Passes, passes, accepted}
-use Rattle.wire.proofs.Differences.{differ-same, same-of-differ}
-use Rattle.wire.specs.Runs.{differ}
-use Rattle.wire.specs.Writers.{writeDone, writeRefused}
-use Rattle.shape.specs.Sizes.{countAnswer}
+use Rattle.order.proofs.Laws.{Passes, passes}
+use Rattle.wire.proofs.Differences.{same-of-differ}
+use Rattle.wire.specs.Writers.{writeDone}
 use Rattle.shape.specs.Tree.{root}
 use Rattle.shape.specs.Folded.{tree}
 use Rattle.log.specs.Outcomes.{leaves}
 use Rattle.letter.specs.Bytes.{sizeIn, indexIn, statedIn, recordIn}
-use Rattle.letter.specs.Items.{itemCount, foreign, workedRoot}
+use Rattle.letter.specs.Items.{itemCount, workedRoot}
 use Rattle.letter.specs.Order.{itemsFor, exactLength, fieldsOrder, from7}
-use Rattle.writer.specs.Outcome.{ourLetter, writeOrder, writeOutcome}
-use Rattle.checker.specs.Outcome.{CheckOutcome, checkRefused, checkDone, checkOrder, checkOutcome, recordBy}
-use Rattle.promise.specs.Promise.{logSize, recordAt, ours, Accepted, WrittenAndAccepted, EveryLetterAccepted}
+use Rattle.writer.specs.Outcome.{writeOrder, writeOutcome}
+use Rattle.checker.proofs.Accepted.{accepted-of, accepts}
+use Rattle.checker.specs.Outcome.{CheckOutcome, recordBy}
+use Rattle.promise.specs.Promise.{logSize, recordAt, ours, Accepted, EveryLetterAccepted}
 use Rattle.promise.proofs.Kept.{Kept, counts, root-length, record-short, items-few, not-foreign}
 use Rattle.promise.proofs.Ours.{ours-size, ours-index, ours-stated, ours-record, ours-exact, ours-root}
 
@@ -33,12 +32,6 @@ pub record Fits (digest : List ℕ → List ℕ) (size n : ℕ) (top letter : Li
   pub rooted : workedRoot digest n letter ≡ top
 
 module _ (digest : List ℕ → List ℕ) (size n : ℕ) (top letter : List ℕ) where
-  pub fits-pass : Fits digest size n top letter → Passes (from7 digest size n top letter)
-  unfolding from7 fieldsOrder
-  fits-pass f =
-      let e : differ top (workedRoot digest n letter) ≡ 0 = differ-same _ _ (sym (f .rooted)) in
-      search needs
-
   pub pass-fits : Passes (from7 digest size n top letter) → Fits digest size n top letter
   unfolding from7 fieldsOrder
   pass-fits h =
@@ -59,11 +52,21 @@ module _ {digest : List ℕ → List ℕ} {rs : List (List ℕ)} {bs : List ℕ}
   -- an accepted letter passes, with the index and the record that it names
   pub accepted-fits : {letter : List ℕ} {i : ℕ} {r : List ℕ} → Accepted digest rs top bs letter i r
       → Fits digest (logSize rs) (length rs) top letter × (i ≡ indexIn letter) × (r ≡ recordIn letter)
-  unfolding checkOutcome checkOrder from7 fieldsOrder recordBy recordIn
+  unfolding recordBy recordIn
   accepted-fits {letter} {i} {r} a =
-      let o = accepted (λ (x : CheckOutcome). x .number) checkRefused (checkOrder digest (logSize rs) top letter) (checkDone letter)
-      (λ m. refl) refl {r = checkOutcome digest (logSize rs) top letter} refl tt (a .number) in (
-        rw (counts k .value) at (pass-fits digest (logSize rs) (leaves (logSize rs)) top letter (o .0 .1 .1)),
+      let o = accepted-of digest (logSize rs) top letter (a .number) in
+      let p = o .0 in
+      let f : Fits digest (logSize rs) (leaves (logSize rs)) top letter =
+      record {
+        long = p .long;
+        named = p .named;
+        inside = p .inside;
+        few = p .few;
+        short = p .short;
+        exact = p .exact;
+        rooted = sym (p .rooted);
+      } in (
+        rw (counts k .value) at f,
         sym (a .index) ∙ ap (λ (x : CheckOutcome). x .index) (o .1),
         sym (a .rec) ∙ ap (λ (x : CheckOutcome). recordBy x letter) (o .1),
       )
@@ -71,13 +74,23 @@ module _ {digest : List ℕ → List ℕ} {rs : List (List ℕ)} {bs : List ℕ}
   -- a letter that passes is accepted
   pub fits-accepted : {letter : List ℕ} → Fits digest (logSize rs) (length rs) top letter
       → Accepted digest rs top bs letter (indexIn letter) (recordIn letter)
-  unfolding checkOutcome checkOrder recordBy recordIn
-  fits-accepted {letter} f =
+  unfolding recordBy recordIn
+  fits-accepted {letter} g =
       let c = counts k in
-      let l = root-length k in
-      let g : Passes (from7 digest (logSize rs) (leaves (logSize rs)) top letter) = rw (c .value) (fits-pass digest (logSize rs) (length rs) top letter f) in
-      let o : checkOutcome digest (logSize rs) top letter ≡ checkDone letter =
-      sym (passes checkRefused (checkOrder digest (logSize rs) top letter) (checkDone letter) {r = checkDone letter} refl (λ z. omega (arith, c .number), (l, g))) in
+      let f : Fits digest (logSize rs) (leaves (logSize rs)) top letter = rw (c .value) g in
+      let o =
+      accepts digest (logSize rs) top letter
+      (record {
+        counted = λ z. omega (arith, c .number);
+        wide = root-length k;
+        long = f .long;
+        named = f .named;
+        inside = f .inside;
+        few = f .few;
+        short = f .short;
+        exact = f .exact;
+        rooted = sym (f .rooted);
+      }) in
       record {
         number = ap (λ (x : CheckOutcome). x .number) o;
         index = ap (λ (x : CheckOutcome). x .index) o;

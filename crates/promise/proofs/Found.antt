@@ -1,41 +1,38 @@
 -- What the finder finds in a log's own nodes, over any digest function: of an accepted letter, of our letter, and where it says "same".
 use mathlib.Core.Path.{_≡_, refl, sym, ap, ap₂, _∙_}
-use mathlib.Core.Logic.{_≢_, by-cases}
-use mathlib.Core.List.{List, [], _∷_, _++_, map, List-discrete}
+use mathlib.Core.List.{List, [], _∷_, map, List-discrete}
 use Prim.Native.Nat.{ℕ, zero, suc, _≤_, _<_}
 use native.Mathlib.Omega.{arith}
 use native.Mathlib.Decide.{ℕ-discrete}
 use borrow.Author.Needs.{needs}
-use lib.ListN.{length, drop}
-use Rattle.order.specs.Order.{Refusal, _if_, verdict}
-use lib.Dec.{T}
-use Rattle.order.proofs.Laws.{Passes, numbered, passes, accepted, refusal}
+use lib.ListN.{length}
+use Rattle.order.proofs.Laws.{Passes, passes, accepted, refusal}
 use Rattle.wire.specs.Numbers.{Bytes}
-use Rattle.wire.specs.Runs.{splice, differ}
+use Rattle.wire.specs.Runs.{differ}
 use Rattle.wire.proofs.Differences.{differ-same, differ-other, same-of-differ}
 use Rattle.wire.proofs.Splices.{splice-front}
-use Rattle.shape.specs.Tree.{Tree, OnePlace, root, inputs}
+use Rattle.shape.specs.Tree.{Each, Tree, OnePlace, root, inputs}
 use Rattle.shape.specs.Folded.{tree}
 use Rattle.shape.specs.Letter.{way, fill, items}
 use Rattle.shape.specs.Differ as difference
 use Rattle.shape.specs.Differ.{Diff, agree, Shown}
-use Rattle.shape.specs.Seen.{seen}
 use Rattle.shape.proofs.Differs.{differ-same as inputs-same}
 use Rattle.shape.proofs.Letters.{letter-bind, letter-place}
-use Rattle.log.specs.Nodes.{nodeIn}
 use Rattle.log.specs.Outcomes.{leaves, rootOrder}
-use Rattle.letter.specs.Bytes.{letterBytes, sizeIn, indexIn, statedIn, recordIn, itemsIn}
+use Rattle.letter.specs.Bytes.{letterBytes, indexIn, recordIn, itemsIn}
 use Rattle.letter.specs.Items.{itemCount, foreign, letterTree, workedRoot}
 use Rattle.letter.specs.Order.{fieldsOrder, from7}
 use Rattle.letter.proofs.Digests.{digests-length, digests-each}
 use Rattle.letter.proofs.Spelling.{spelt}
 use Rattle.writer.specs.Outcome.{ourLetter}
-use Rattle.finder.specs.Outcome.{Answer, none, same, records, pair, FindOutcome, findRefused, byRecords, findDone, ownRoot, firstDifference, roomOrder, ownOrder, findOrder, findOutcome}
+use Rattle.finder.specs.Outcome.{none, same, pair, FindOutcome, findRefused, findDone}
+use Rattle.finder.specs.Outcome.{ownRoot, firstDifference, roomOrder, ownOrder, findOrder, findOutcome}
 use Rattle.finder.proofs.Parts.{rootDiffers, find-numbered, find-parts, find-checked}
-use Rattle.promise.specs.Promise.{logSize, recordAt, ours, Accepted, Ends, ends-same, ends-records, ends-pair, EveryAcceptedEnds, EveryOursSame, EverySameOurs}
+use Rattle.promise.specs.Promise.{logSize, recordAt, ours}
+use Rattle.promise.specs.Promise.{Ends, ends-same, ends-records, ends-pair, EveryAcceptedEnds, EveryOursSame, EverySameOurs}
 use Rattle.promise.proofs.Kept.{Kept, counts, log-32, own-root, record-short, leads, not-foreign, not-broken, shown}
 use Rattle.promise.proofs.Ours.{letter-own, ours-index, ours-record, ours-tree}
-use Rattle.promise.proofs.Checked.{Fits, pass-fits, fits-pass, accepted-fits, ours-fits}
+use Rattle.promise.proofs.Checked.{Fits, pass-fits, accepted-fits, ours-fits}
 
 -- a list has no difference from itself
 no-difference : (xs : List (List ℕ)) → difference.differ xs xs ≡ agree
@@ -75,7 +72,8 @@ module _ {digest : List ℕ → List ℕ} {rs : List (List ℕ)} {bs : List ℕ}
       let p : i < n = omega (arith, f .inside) in
       let c = counts k in
       let s = record-short k i p in
-      let o : foreign digest bs (indexIn letter) (recordAt rs i) ≡ 0 = ap (λ (j : ℕ). foreign digest bs j (recordAt rs i)) (sym e) ∙ not-foreign k i p in
+      let o : foreign digest bs (indexIn letter) (recordAt rs i) ≡ 0 =
+      ap (λ (j : ℕ). foreign digest bs j (recordAt rs i)) (sym e) ∙ not-foreign k i p in
       let b = not-broken k (indexIn letter) (f .inside) in
       let some = k .log .some in
       let room = k .room in
@@ -111,21 +109,26 @@ module _ {digest : List ℕ → List ℕ} {rs : List (List ℕ)} {bs : List ℕ}
     unfolding itemCount itemsIn
     items-many = digests-length _ _ letter
 
+    items-each : Each 32 xs
+    unfolding itemsIn
+    items-each = digests-each _ _ letter
+
     compared : firstDifference digest n bs letter
         ≡ difference.differ (inputs digest (fill (way n i) (digest (recordAt rs i)) ownItems)) (inputs digest (letterTree digest n letter))
     compared = ap (λ (l : List (List ℕ)). difference.differ l (inputs digest (letterTree digest n letter))) (shown k i (f .inside))
 
     bound : Shown digest Agree (firstDifference digest n bs letter)
-    unfolding workedRoot itemsIn
+    unfolding workedRoot
     bound =
         rw compared
-        (letter-bind digest (k .digest-32) (leads k i (f .inside)) (log-32 k) (digest (recordIn letter)) xs (k .digest-32 _) (digests-each _ _ letter) items-many (f .rooted))
+        (letter-bind digest (k .digest-32) (leads k i (f .inside)) (log-32 k) (digest (recordIn letter)) xs (k .digest-32 _) items-each items-many
+        (f .rooted))
 
     placed : (a b : List ℕ) → firstDifference digest n bs letter ≡ difference.pair a b
         → OnePlace digest (tree (map digest rs)) (letterTree digest n letter) a b × (length a ≡ 64) × (length b ≡ 64)
-    unfolding itemsIn
     placed a b e =
-        letter-place digest (k .digest-32) (leads k i (f .inside)) (log-32 k) (digest (recordIn letter)) xs (k .digest-32 _) (digests-each _ _ letter) items-many a b (sym compared ∙ e)
+        letter-place digest (k .digest-32) (leads k i (f .inside)) (log-32 k) (digest (recordIn letter)) xs (k .digest-32 _) items-each items-many
+        a b (sym compared ∙ e)
 
     -- where the items agree, the letter is ours of its record
     is-ours : Bytes letter → ownItems ≡ xs → letter ≡ ourLetter digest (logSize rs) i (recordIn letter) bs
@@ -156,11 +159,11 @@ module _ {digest : List ℕ → List ℕ} {rs : List (List ℕ)} {bs : List ℕ}
   ours-same j p first second u v =
       let l = ours digest rs bs j in
       let e = ours-index k j p in
-      let t : letterTree digest n l ≡ fill (way n (indexIn l)) (digest (recordAt rs (indexIn l))) (items digest (tree (map digest rs)) (way n (indexIn l))) =
-      ours-tree k j p ∙ ap (λ (x : ℕ). fill (way n x) (digest (recordAt rs x)) (items digest (tree (map digest rs)) (way n x))) (sym e) in
+      let own : ℕ → Tree = λ x. fill (way n x) (digest (recordAt rs x)) (items digest (tree (map digest rs)) (way n x)) in
+      let t : letterTree digest n l ≡ own (indexIn l) = ours-tree k j p ∙ ap own (sym e) in
       let agreed : firstDifference digest n bs l ≡ agree =
       compared l (ours-fits k j p)
-      ∙ ap (λ (x : List (List ℕ)). difference.differ x (inputs digest (letterTree digest n l))) (ap (inputs digest) (sym t))
+      ∙ ap (λ (x : Tree). difference.differ (inputs digest x) (inputs digest (letterTree digest n l))) (sym t)
       ∙ no-difference (inputs digest (letterTree digest n l)) in
       find-done l first second j (sym e) (ours-fits k j p) u v
       ∙ ap₂ (λ (d : Diff) (m : ℕ). findDone d m first second) agreed (differ-same _ _ (sym (ours-record k j p)))
@@ -171,18 +174,19 @@ module _ {digest : List ℕ → List ℕ} {rs : List (List ℕ)} {bs : List ℕ}
   unfolding findOutcome
   find-passes rec letter first second e =
       let number : FindOutcome → ℕ = λ o. o .number in
+      let outcome = findOutcome digest (logSize rs) bs rec letter first second in
       let order = findOrder digest (logSize rs) bs rec letter first second in
       let done = findDone (firstDifference digest (leaves (logSize rs)) bs letter) (differ rec (recordIn letter)) first second in
       let z : number done ≡ 0 = done-zero (firstDifference digest (leaves (logSize rs)) bs letter) _ first second in
-      elim (ℕ-discrete (number (findOutcome digest (logSize rs) bs rec letter first second)) 0) [
+      elim (ℕ-discrete (number outcome) 0) [
         | yes h ↦
-            let o = accepted number (findRefused first second) order done (λ m. refl) z {r = findOutcome digest (logSize rs) bs rec letter first second} refl
+            let o = accepted number (findRefused first second) order done (λ m. refl) z {r = outcome} refl
             (find-numbered digest (logSize rs) bs rec letter first second) h in
             let q : Passes (from7 digest (logSize rs) n top letter) =
             rw (counts k .value, own-root k) at (find-checked digest (logSize rs) bs rec letter first second (o .0)) in
             (pass-fits digest (logSize rs) n top letter q, rw (counts k .value) at (sym (ap (λ (x : FindOutcome). x .answer) (o .1)) ∙ e))
         | no h ↦
-            let r = refusal number (findRefused first second) order done (λ m. refl) z {r = findOutcome digest (logSize rs) bs rec letter first second} refl h in
+            let r = refusal number (findRefused first second) order done (λ m. refl) z {r = outcome} refl h in
             absurd (no-answer (sym (ap (λ (x : FindOutcome). x .answer) r) ∙ e))
       ]
 

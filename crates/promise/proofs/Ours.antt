@@ -1,18 +1,13 @@
 -- Our letter of a log's own record, over any digest function: its items, its fields, and the tree that it shows.
-use mathlib.Core.Path.{_≡_, refl, sym, ap, ap₂, _∙_}
-use mathlib.Core.Bool.{true, false, _&&_}
-use mathlib.Core.List.{List, [], map}
-use Prim.Native.Nat.{ℕ, _+_, _*_, _^_, _≤_, _<_}
+use mathlib.Core.Path.{_≡_, sym, ap, ap₂, _∙_}
+use mathlib.Core.List.{List, map}
+use Prim.Native.Nat.{ℕ, _^_, _<_}
 use native.Mathlib.Omega.{arith}
-use borrow.Author.Tests.{le-leb, lt-ltb}
 use lib.ListN.{length, length-map}
-use Rattle.shape.specs.Sizes.{sizeOf}
-use Rattle.shape.specs.Tree.{Each, Tree, root}
+use Rattle.shape.specs.Tree.{Each, root}
 use Rattle.shape.specs.Folded.{tree}
 use Rattle.shape.specs.Letter.{way, fill, items}
 use Rattle.shape.proofs.Letters.{items-length, items-32, complete}
-use Rattle.shape.proofs.Reading.{items-read}
-use Rattle.log.specs.Nodes.{nodeIn}
 use Rattle.log.specs.Outcomes.{leaves}
 use Rattle.letter.specs.Bytes.{letterBytes, sizeIn, indexIn, statedIn, recordIn, itemsIn}
 use Rattle.letter.specs.Items.{itemCount, itemsOf, letterTree, workedRoot}

@@ -1,7 +1,7 @@
 -- The promise, for Blake3; and that the logs of which it speaks are those that appends build.
-use mathlib.Core.Path.{_≡_, ap, sym, subst}
+use mathlib.Core.Path.{_≡_, ap, sym, subst, _∙_}
 use mathlib.Core.List.{List, map}
-use Prim.Native.Nat.{ℕ, _≤_}
+use Prim.Native.Nat.{ℕ, _≤_, _<_}
 use lib.ListN.{length}
 use Rattle.digest.specs.Digest.{digestOf, digest-length}
 use Rattle.shape.specs.Tree.{root}
@@ -11,19 +11,24 @@ use Rattle.log.specs.Outcomes.{RootOutcome, rootOutcome}
 use Rattle.log.specs.Runs.{run, empty}
 use Rattle.log.proofs.Grown.{begins-hold, begins-long, root-of-log}
 use Rattle.log.proofs.Runs.{run-sound}
-use Rattle.promise.specs.Promise.{Log, logSize, EveryLetterAccepted, EveryAcceptedEnds, EveryOursSame, EverySameOurs, OfEveryLog, LetterAccepted, AcceptedIsOurs, OursIsSame, SameIsOurs}
+use Rattle.promise.specs.Promise.{Log, logSize, recordAt, ours, EveryLetterAccepted, EveryAcceptedEnds, EveryOursSame, EverySameOurs}
+use Rattle.promise.specs.Promise.{OfEveryLog, LetterAccepted, AcceptedIsOurs, OursIsSame, SameIsOurs}
 use Rattle.promise.proofs.Kept.{Kept}
+use Rattle.promise.proofs.Ours.{letter-own}
 use Rattle.promise.proofs.Checked.{letters-accepted}
 use Rattle.promise.proofs.Found.{accepted-ends, ours-same, same-ours}
 
--- a buffer that begins with a log's nodes holds each at its place, and the root that is answered is the tree's
+-- a buffer that begins with a log's nodes holds each at its place
+kept : (rs : List (List ℕ)) (bs : List ℕ) → Log rs → Begins bs rs → Kept digestOf rs bs
+kept rs bs g b = record { digest-32 = digest-length; log = g; holds = begins-hold rs bs b; room = begins-long rs bs b }
+
+-- and the root that is answered is the tree's
 of-every-log : (Says : List (List ℕ) → List ℕ → List ℕ → Type 0)
     → ((rs : List (List ℕ)) (bs : List ℕ) → Kept digestOf rs bs → Says rs (root digestOf (tree (map digestOf rs))) bs) → OfEveryLog Says
 of-every-log Says law rs g bs b =
-    let k : Kept digestOf rs bs = record { digest-32 = digest-length; log = g; holds = begins-hold rs bs b; room = begins-long rs bs b } in
     let e : rootOutcome (logSize rs) bs .digest ≡ root digestOf (tree (map digestOf rs)) =
     ap (λ (o : RootOutcome). o .digest) (root-of-log rs bs (g .some) (g .few) b) in
-    subst (λ (d : List ℕ). Says rs d bs) (sym e) (law rs bs k)
+    subst (λ (d : List ℕ). Says rs d bs) (sym e) (law rs bs (kept rs bs g b))
 
 -- the letters that we write are accepted
 pub letter-accepted : LetterAccepted
@@ -39,6 +44,11 @@ ours-is-same = of-every-log (EveryOursSame digestOf) (λ rs bs k. ours-same k)
 
 pub same-is-ours : SameIsOurs
 same-is-ours = of-every-log (EverySameOurs digestOf) (λ rs bs k. same-ours k)
+
+-- a log has one letter for an index, whatever stands in a buffer beyond its nodes
+pub one-letter : (rs : List (List ℕ)) (bs cs : List ℕ) → Log rs → Begins bs rs → Begins cs rs → (i : ℕ) → i < length rs
+    → ours digestOf rs bs i ≡ ours digestOf rs cs i
+one-letter rs bs cs g b c i p = letter-own (kept rs bs g b) i p (recordAt rs i) ∙ sym (letter-own (kept rs cs g c) i p (recordAt rs i))
 
 -- any run of appends to an empty log, refused ones among them, that took a record leaves such a log, its size, and such a buffer
 pub appends-build : (bs : List ℕ) (rs : List (List ℕ)) → 1 ≤ length (run (empty bs) rs .taken)

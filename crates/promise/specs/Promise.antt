@@ -1,7 +1,9 @@
--- What writer, checker and finder promise together, of every log: the letters that we write are accepted; and bytes that are accepted are our letter, or the
--- finder gives two different strings with one digest, one hashed in building the log or its root, the other in checking those bytes, at the same
--- place in the tree. The statements stand at the end, for Blake3. Above them is what they say, for any digest function.
--- Nothing is claimed of nodes that are not the log's, beyond the refusals: only the finder's own outcome speaks of those.
+-- What writer, checker and finder promise together, of every log: the letters that we write are accepted; and bytes that are accepted are our
+-- letter, or the finder gives two different strings with one digest, one hashed in building the log or its root, the other in checking those bytes,
+-- at the same place in the tree.
+-- The statements stand at the end, for Blake3; above them is what they say, for any digest function. They speak of the outcomes that the contracts of
+-- the public calls cite, so they hold of the code.
+-- Nothing is claimed of nodes that are not the log's, beyond the refusals: of those the finder's own outcome alone speaks.
 use mathlib.Core.Logic.{_≢_}
 use mathlib.Core.Path.{_≡_}
 use mathlib.Core.List.{List, [], _++_, map}
@@ -60,8 +62,8 @@ module _ (digest : List ℕ → List ℕ) (rs : List (List ℕ)) (root bs : List
     -- r and the log's record differ and have one digest; no byte of the buffers changed
     ends-records : r ≢ recordAt rs i → digest r ≡ digest (recordAt rs i)
         → Ends letter i r first second (record { number = 0; answer = records; first = first; second = second })
-    -- the first 64 bytes of the two buffers are a and b, which differ and have one digest; for one place in the folded tree a is what building the log
-    -- or its root hashes there, and b what checking those bytes hashes there; no other byte changed
+    -- the first 64 bytes of the two buffers are a and b, which differ and have one digest; for one place in the folded tree a is what building the
+    -- log or its root hashes there, and b what checking those bytes hashes there; no other byte changed
     ends-pair : (a b : List ℕ) → length a ≡ 64 → length b ≡ 64 → a ≢ b → digest a ≡ digest b
         → OnePlace digest (tree (map digest rs)) (letterTree digest (length rs) letter) a b
         → Ends letter i r first second (record { number = 0; answer = pair; first = a ++ drop 64 first; second = b ++ drop 64 second })
@@ -94,7 +96,7 @@ module _ (digest : List ℕ → List ℕ) (rs : List (List ℕ)) (root bs : List
 
 -- ---- the statements, for Blake3
 
--- of every log, with its size, its root, and any buffer that begins with its nodes
+-- of every log, with its size, any buffer that begins with its nodes, and its root, which is what the log's own call answers (`root-of-log`)
 abbrev pub OfEveryLog : (List (List ℕ) → List ℕ → List ℕ → Type 0) → Type 0
 OfEveryLog Says = (rs : List (List ℕ)) → Log rs → (bs : List ℕ) → Begins bs rs → Says rs (rootOutcome (logSize rs) bs .digest) bs
 

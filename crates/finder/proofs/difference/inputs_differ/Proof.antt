@@ -18,10 +18,11 @@ returns c =
 
 returns-2 : tie.Need-returns-2
 returns-2 c =
-    let a = c .before .before .before .args .a in
-    let b = c .before .before .before .args .b in
-    c .digests-differ2 .ensures
-    ∙ apart-right (a .left .bytes) (a .right .bytes) (b .left .bytes) (b .right .bytes) (sym (c .before .before .digests-differ .ensures) ∙ c .before .if1 .left)
+    let lefts = c .before .before in
+    let a = lefts .before .args .a in
+    let b = lefts .before .args .b in
+    let z = sym (lefts .digests-differ .ensures) ∙ c .before .if1 .left in
+    c .digests-differ2 .ensures ∙ apart-right (a .left .bytes) (a .right .bytes) (b .left .bytes) (b .right .bytes) z
 
 pub inputs-differ-spec : {M : Type 1} → statement M
 inputs-differ-spec =

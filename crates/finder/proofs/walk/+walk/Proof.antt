@@ -1,14 +1,12 @@
 -- The walk by recursion on the height: `Turning` has the room that each call has, and what is found with one more turn above.
 use Prim.Native.Nat.{ℕ, _+_, _-_, _<_}
-use mathlib.Core.Path.{_≡_, refl, sym, _∙_}
+use mathlib.Core.Path.{refl}
 use native.Mathlib.Omega.{arith}
-use lib.ListN.{length, length-map}
 use borrow.Author.Needs.{needs}
 use borrow.Fn.Kinds.{In}
 use borrow.Fn.PlainCycle.{Measures, is, falls, and}
 use Rattle.shape.proofs.Ways.{way-most}
-use Rattle.finder.proofs.Differences.{same-left, same-right}
-use Rattle.finder.proofs.Turning.{Above, half-bounds, low-room, left-room, right-room, fork-room, read-lengths}
+use Rattle.finder.proofs.Turning.{Above, half-bounds, low-room, left-room, right-room, fork-room}
 use Rattle.finder.proofs.Turning.{turned-none, turned-low, turned-left, turned-within, turned-past}
 use Rattle.finder.proofs.walk.walk.Reads as walk
 use Rattle.finder.proofs.walk.walk.Kinds as walk-kinds
@@ -75,7 +73,7 @@ pub +walk-spec : {M : Type 1} → statement M
     let start = c .before .before .before .before .before in
     let a = start .args in
     turned-none (a .nodes .now) (a .items .now) (a .leaf .bytes) (a .n) (a .i) (a .s) (a .from) _ (a .h)
-    (c .before .before .if1 .taken) (start .pre .1) refl (c .before .digest-at .ensures) refl refl (c .agreement .ensures))
+    (c .before .before .if1 .taken) (start .pre .1) refl (c .before .digest-at .ensures) refl (c .agreement .ensures))
     (λ c. search needs)
     (λ c κs. search needs)
     -- all leaves at the height below
@@ -109,18 +107,15 @@ pub +walk-spec : {M : Type 1} → statement M
     let p = c .before .before .before .before .before .before .before .before in
     let f = above t p in
     let a = p .before .before .before .before .args in
-    let half = p .power .result in
-    let low = c .before .before .before .before .before .walk2 in
-    let n : length (low .result .log .bytes) ≡ 32 = sym (length-map (low .result .log .bytes) (λ v. v)) ∙ low .ok .1 .1 .0 .1 .1 .0 .1 .0 .1 in
-    let m : length (low .result .letter .bytes) ≡ 32 = sym (length-map (low .result .letter .bytes) (λ v. v)) ∙ low .ok .1 .1 .1 .0 .1 .1 .0 .1 .0 .1 in
-    (fork-room f half (a .i) (low .ensures .used), same-left _ _ _ _ (n ∙ sym m)))
+    fork-room f (p .power .result) (a .i) (c .before .before .before .before .before .walk2 .ensures .used))
     (λ c.
-    let p = c .before .before .before .before .before .before .before .before .before in
+    let walked = c .before .before .before .before .before .before in
+    let p = walked .before .before .before in
     let f = above t p in
     let a = p .before .before .before .before .args in
     turned-left (a .nodes .now) (a .items .now) (a .leaf .bytes) (a .n) (a .i) (a .s) (a .from) _ _ _ _ f (f .fits)
-    (c .before .before .before .before .before .before .before .before .if2 .left) (c .before .before .before .before .before .before .before .if3 .taken) (c .before .before .before .before .before .before .walk2 .ensures) refl (c .before .before .before .fold-from .ensures)
-    refl (c .before .digest-at2 .ensures) (c .fork .ensures))
+    (walked .before .before .if2 .left) (walked .before .if3 .taken) (walked .walk2 .ensures)
+    refl (c .before .before .before .fold-from .ensures) refl (c .before .digest-at2 .ensures) (c .fork .ensures))
     -- the left child or peak
     (λ c. let f = half-bounds (above t (c .before .before)) in omega arith)
     (λ c κs. let f = half-bounds (above t (c .before .before)) in omega arith)
@@ -147,44 +142,38 @@ pub +walk-spec : {M : Type 1} → statement M
     let f = above t p in
     let a = p .before .before .before .before .args in
     let half = p .power .result in
-    let low = c .before .before .before .before .walk3 in
-    let left = c .before .before .before .before .before .before .digest-at3 in
-    let side = c .before .before .digest-at4 in (
-      fork-room f (a .n - half) (a .i - half) (low .ensures .used),
-      same-right (left .result .bytes) (low .result .log .bytes) (side .result .bytes) (low .result .letter .bytes)
-          (read-lengths (a .nodes .now) (a .items .now) _ _ (left .ensures) (side .ensures)),
-    ))
+    fork-room f (a .n - half) (a .i - half) (c .before .before .before .before .walk3 .ensures .used))
     (λ c.
-    let p = c .before .before .before .before .before .before .before .before .before .before in
+    let walked = c .before .before .before .before .before in
+    let read = walked .before .before in
+    let p = read .before .before .before in
     let f = above t p in
     let a = p .before .before .before .before .args in
     turned-within (a .nodes .now) (a .items .now) (a .leaf .bytes) (a .n) (a .i) (a .s) (a .from) _ _ _ _ f (f .fits)
-    (c .before .before .before .before .before .before .before .before .before .if2 .left) (c .before .before .before .before .before .before .before .before .if3 .left) (c .before .before .before .before .before .before .if4 .taken) (c .before .before .before .before .before .walk3 .ensures) (c .before .before .before .before .before .before .before .digest-at3 .ensures) refl
-    (c .before .before .before .digest-at4 .ensures) refl (c .fork2 .ensures))
+    (read .before .before .if2 .left) (read .before .if3 .left) (walked .before .if4 .taken) (walked .walk3 .ensures)
+    (read .digest-at3 .ensures) refl (c .before .before .before .digest-at4 .ensures) refl (c .fork2 .ensures))
     -- a right turn past a peak
     (λ c κs. let f = above t (c .before .before .before .before) in omega (arith, f .fits .few))
     (λ c. let f = above t (c .before .before .before .before .before) in omega (arith, f .fits .few))
     (λ c κs.
-    let p = c .before .before .before .before .before in
+    let read = c .before .before in
+    let p = read .before .before .before in
     let f = above t p in
     let a = p .before .before .before .before .args in
-    (omega (arith, f .some), right-room f (a .from + 1) (omega arith) (c .before .before .before .before .if2 .left) (c .before .before .before .if3 .left)))
+    (omega (arith, f .some), right-room f (a .from + 1) (omega arith) (read .before .before .if2 .left) (read .before .if3 .left)))
     (λ c κs.
     let p = c .before .before .before .before .before .before .before .before in
     let f = above t p in
     let a = p .before .before .before .before .args in
     let half = p .power .result in
-    let low = c .before .before .walk4 in
-    let left = c .before .before .before .before .before .digest-at3 in
-    let side = c .before .before .before .digest-at5 in (
-      fork-room f (a .n - half) (a .i - half) (low .ensures .used),
-      same-right (left .result .bytes) (low .result .log .bytes) (side .result .bytes) (low .result .letter .bytes)
-          (read-lengths (a .nodes .now) (a .items .now) _ _ (left .ensures) (side .ensures)),
-    ))
+    fork-room f (a .n - half) (a .i - half) (c .before .before .walk4 .ensures .used))
     (λ c.
-    let p = c .before .before .before .before .before .before .before .before .before in
+    let walked = c .before .before .before in
+    let test = walked .before .before in
+    let read = test .before in
+    let p = read .before .before .before in
     let f = above t p in
     let a = p .before .before .before .before .args in
     turned-past (a .nodes .now) (a .items .now) (a .leaf .bytes) (a .n) (a .i) (a .s) (a .from) _ _ _ _ f (f .fits)
-    (c .before .before .before .before .before .before .before .before .if2 .left) (c .before .before .before .before .before .before .before .if3 .left) (c .before .before .before .before .before .if4 .left) (c .before .before .before .walk4 .ensures) (c .before .before .before .before .before .before .digest-at3 .ensures) refl
-    (c .before .before .before .before .digest-at5 .ensures) refl (c .fork3 .ensures)))
+    (read .before .before .if2 .left) (read .before .if3 .left) (test .if4 .left) (walked .walk4 .ensures)
+    (read .digest-at3 .ensures) refl (walked .before .digest-at5 .ensures) refl (c .fork3 .ensures)))

@@ -1,7 +1,7 @@
--- Within a peak the node, above the peaks what was worked out.
+-- Within a peak the node; above the peaks the digest of the log's input, which is the letter's where the inputs are the same.
 use mathlib.Core.Path.{sym, _∙_}
 use borrow.Author.Tests.{eq-eqb, ne-eqb}
-use Rattle.finder.specs.Walks.{crown}
+use Rattle.finder.specs.Steps.{crown}
 use borrow.Author.Needs.{needs}
 use Rattle.finder.proofs.walk.crown.Statement.{statement}
 use Rattle.finder.proofs.walk.crown.Tie as tie
@@ -12,7 +12,15 @@ returns c = let a = c .before .before .before .args in c .digest-at .ensures ∙
 
 returns-2 : tie.Need-returns-2
 unfolding crown
-returns-2 c = let a = c .before .before .args in sym (rw (ne-eqb (a .rest) (a .half) (c .if1 .left), crown))
+returns-2 c =
+    let s = c .before .before .before in
+    s .pre .1 (c .if2 .taken) ∙ sym (rw (ne-eqb (s .args .rest) (s .args .half) (c .before .if1 .left), crown))
+
+returns-3 : tie.Need-returns-3
+unfolding crown
+returns-3 c =
+    let a = c .before .before .before .before .args in
+    c .digest-of-pair .ensures ∙ sym (rw (ne-eqb (a .rest) (a .half) (c .before .before .if1 .left), crown))
 
 pub crown-spec : {M : Type 1} → statement M
 crown-spec =
@@ -23,4 +31,6 @@ crown-spec =
     (λ c. search needs)
     (λ c κs. search needs)
     returns
-    returns-2)
+    returns-2
+    (λ c κs. search needs)
+    returns-3)

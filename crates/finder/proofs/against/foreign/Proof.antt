@@ -8,19 +8,21 @@ use Rattle.shape.proofs.Sizes.{size-answer, position-answer}
 use Rattle.log.specs.Nodes.{nodeIn}
 use Rattle.letter.specs.Items.{foreign}
 use borrow.Author.Needs.{needs}
-use Rattle.finder.proofs.foreign.Statement.{statement}
-use Rattle.finder.proofs.foreign.Tie as tie
+use Rattle.finder.proofs.against.foreign.Statement.{statement}
+use Rattle.finder.proofs.against.foreign.Tie as tie
 
 returns : tie.Need-returns
 unfolding foreign
 returns c =
-    let s = c .before .before .before .before .before .before in
+    let at = c .before .before in
+    let own = at .before in
+    let s = own .before .before .before in
     let i = s .args .i in
     let p = s .pre .0 in
     let e : sizeAnswer i .value ≡ positionAnswer i .value =
     ap (λ (a : Answer). a .value) (size-answer i (omega arith)) ∙ sym (ap (λ (a : Answer). a .value) (position-answer i p)) in
     c .digests-differ .ensures
-    ∙ ap₂ differ (c .before .before .before .own-digest .ensures) (c .before .node-at .ensures ∙ ap (nodeIn (s .args .nodes .now)) (c .before .before .nodes-of .ensures ∙ e))
+    ∙ ap₂ differ (own .own-digest .ensures) (c .before .node-at .ensures ∙ ap (nodeIn (s .args .nodes .now)) (at .nodes-of .ensures ∙ e))
 
 pub foreign-spec : {M : Type 1} → statement M
 foreign-spec =

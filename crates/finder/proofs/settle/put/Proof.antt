@@ -3,16 +3,18 @@ use mathlib.Core.Path.{_≡_, sym, _∙_}
 use lib.ListN.{length, length-map}
 use Rattle.finder.proofs.Lists.{put-two}
 use borrow.Author.Needs.{needs}
-use Rattle.finder.proofs.put.Statement.{statement}
-use Rattle.finder.proofs.put.Tie as tie
+use Rattle.finder.proofs.settle.put.Statement.{statement}
+use Rattle.finder.proofs.settle.put.Tie as tie
 
 returns : tie.Need-returns
 returns c =
-    let s = c .before .before .before .before .before .before .before .before .before .before .before in
+    let last = c .before .before in
+    let first = last .before .before .before .before in
+    let s = first .before .before .before .before .before in
     let x = s .args .x in
     let n : length (x .left .bytes) ≡ 32 = sym (length-map (x .left .bytes) (λ v. v)) ∙ s .good .1 .0 .1 .1 .0 .1 .1 .0 .1 .0 .1 in
     let m : length (x .right .bytes) ≡ 32 = sym (length-map (x .right .bytes) (λ v. v)) ∙ s .good .1 .0 .1 .1 .1 .0 .1 .1 .0 .1 .0 .1 in
-    put-two (s .args .d .now) (x .left .bytes) (x .right .bytes) _ _ n m (s .pre) (c .before .before .before .before .before .before .write-digest .ensures) (c .before .before .write-digest2 .ensures)
+    put-two (s .args .d .now) (x .left .bytes) (x .right .bytes) _ _ n m (s .pre) (first .write-digest .ensures) (last .write-digest2 .ensures)
 
 pub put-spec : {M : Type 1} → statement M
 put-spec =

@@ -1,7 +1,7 @@
 -- The digest is worked out where the records differ.
 use borrow.Author.Needs.{needs}
-use Rattle.finder.proofs.own_digest.Statement.{statement}
-use Rattle.finder.proofs.own_digest.Tie as tie
+use Rattle.finder.proofs.against.own_digest.Statement.{statement}
+use Rattle.finder.proofs.against.own_digest.Tie as tie
 
 returns : tie.Need-returns
 returns c = c .before .before .pre (c .if1 .taken)

@@ -1,4 +1,4 @@
--- What the finder's own steps are called: an input, a difference, a fork above a walk, and what a walk finds, for any nodes and any items.
+-- What the finder's own steps are called: a difference, a fork above a walk, what a walk asks and finds, for any nodes and any items.
 use mathlib.Core.Path.{_≡_}
 use mathlib.Core.Bool.{true, false}
 use mathlib.Core.List.{List, [], _∷_, _++_}
@@ -11,13 +11,13 @@ use Rattle.wire.specs.Runs.{differ}
 use Rattle.shape.specs.Tree.{Tree, root, inputs}
 use Rattle.shape.specs.Letter.{wayIn, fill}
 use Rattle.shape.specs.Positions.{peaksIn, fold}
-use Rattle.shape.specs.Seen.{either, seenIn, seen, brokenIn}
+use Rattle.shape.specs.Seen.{seenIn, seen}
 use Rattle.shape.specs.Differ as difference
 use Rattle.shape.specs.Differ.{Diff, agree}
 use Rattle.log.specs.Nodes.{nodeIn}
 use Rattle.letter.specs.Bytes.{digestsFrom}
 use Rattle.letter.specs.Items.{itemCount, treeOf}
-use Rattle.finder.specs.Outcome.{FindOutcome, findRefused, findDone, roomOrder, ownRoot, ownOrder}
+use Rattle.finder.specs.Outcome.{FindOutcome, findRefused, settled, ownRoot, ownOrder}
 use Rattle.finder.specs.declared.difference.Input.{Input}
 use Rattle.finder.specs.declared.difference.Difference.{Difference}
 use Rattle.finder.specs.declared.walk.Trail.{Trail}
@@ -35,32 +35,31 @@ above (suc k) ours theirs below = difference.pair ours theirs
 abbrev pub told : Difference → Diff
 told d = above (d .apart) (bytesOf (d .ours)) (bytesOf (d .theirs)) agree
 
--- a number where the two inputs on top are the same, else 0
-abbrev pub whereSame : ℕ → ℕ → ℕ
-whereSame zero k = 0
-whereSame (suc s) k = k
-
--- 1 where a node of a walk isn't the digest of its two children, else 0: the node on top, where that was left open, or one below
-abbrev pub brokenBy : Trail → ℕ
-brokenBy w = either (whereSame (w .same) (differ (w .log .bytes) (w .letter .bytes))) (w .broken)
-
 -- on top of a fork of `half` leaves and `rest`, whose right side begins at position mid: the node within a peak, above the peaks what is worked out
 unfoldable pub crown : List ℕ → ℕ → ℕ → ℕ → List ℕ → List ℕ
 crown bs half rest mid up = elim (eqb rest half) [ true ↦ nodeIn bs (mid + (2 * half - 1)) | false ↦ up ]
+
+-- 1 where the node on top of such a fork, within a peak, isn't the digest of its two children, else 0
+unfoldable pub topBroken : List ℕ → ℕ → ℕ → ℕ → ℕ
+topBroken bs half rest mid =
+    elim (eqb rest half) [
+      | true ↦ differ (nodeIn bs (mid + (2 * half - 1))) (digestOf (nodeIn bs (mid - 1) ++ nodeIn bs (mid + (2 * half - 2))))
+      | false ↦ 0
+    ]
 
 -- no sum wraps
 pub record Forkable (half mid taken : ℕ) : Type 0 where
   pub some : 0 < half
   pub few : half ≤ 2 ^ 32
+  pub past : 0 < mid
   pub near : mid ≤ 2 ^ 34
   pub used : taken ≤ 64
 
--- one fork above the walk `low`: t stands on top of it, `up` is the digest of the log's input
-pub record Joined (low : Trail) (t up : List ℕ) (ours theirs : Input) (w : Trail) : Type 0 where
+-- one fork above the walk `low`: t stands on top of it
+pub record Joined (low : Trail) (t : List ℕ) (ours theirs : Input) (w : Trail) : Type 0 where
   pub used : w .used ≡ low .used + 1
   pub log : w .log .bytes ≡ t
   pub letter : w .letter .bytes ≡ digestOf (bytesOf theirs)
-  pub broken : brokenBy w ≡ either (differ t up) (brokenBy low)
   pub first : told (w .difference) ≡ above (differ (bytesOf ours) (bytesOf theirs)) (bytesOf ours) (bytesOf theirs) (told (low .difference))
 
 -- a walk to leaf i of n, n at most 2^h, whose nodes begin at position s, with the items from number `from` on
@@ -75,20 +74,18 @@ pub record Walkable (h n i s from : ℕ) : Type 0 where
 abbrev pub lettered : ℕ → ℕ → ℕ → List ℕ → ℕ → List ℕ → Tree
 lettered h n i leaf from items = fill (wayIn h n i) leaf (digestsFrom (32 * from) (length (wayIn h n i)) items)
 
+-- what it finds: the items that it took, the two digests on top, and the first difference of the inputs
 pub record Walked (h n i s : ℕ) (leaf : List ℕ) (from : ℕ) (bs items : List ℕ) (w : Trail) : Type 0 where
   pub used : w .used ≡ length (wayIn h n i)
   pub log : w .log .bytes ≡ fold digestOf (nodeIn bs) (peaksIn (suc h) n s)
   pub letter : w .letter .bytes ≡ root digestOf (lettered h n i leaf from items)
-  pub broken : brokenBy w ≡ brokenIn digestOf (nodeIn bs) (suc h) n i s
   pub first : told (w .difference)
       ≡ difference.differ (seenIn digestOf (nodeIn bs) h n i s) (inputs digestOf (lettered h n i leaf from items))
 
 -- a letter of the right form compared: 9, then 3 and 13 for the log's own record, 14, and 6; `theirs` is its record
 unfoldable pub againstOutcome : List ℕ → ℕ → ℕ → List ℕ → List ℕ → List ℕ → List ℕ → List ℕ → FindOutcome
-againstOutcome bs n i rec theirs items first second =
+againstOutcome bs n i rec theirs items one two =
     let tree = treeOf digestOf n i theirs (digestsFrom 0 (itemCount n i) items) in
-    let R = findRefused first second in
-    verdict R (9 if differ (ownRoot digestOf n bs) (root digestOf tree) is-not 0 ∷ [])
-    (verdict R (ownOrder digestOf n bs rec i)
-    (verdict R (roomOrder first second)
-    (findDone (difference.differ (seen digestOf (nodeIn bs) n i) (inputs digestOf tree)) (differ rec theirs) first second)))
+    verdict (findRefused one two) (9 if differ (ownRoot digestOf n bs) (root digestOf tree) is-not 0 ∷ [])
+    (verdict (findRefused one two) (ownOrder digestOf n bs rec i)
+    (settled (difference.differ (seen digestOf (nodeIn bs) n i) (inputs digestOf tree)) (differ rec theirs) one two))
