@@ -1,15 +1,15 @@
-# The table of bench/find.sh, and the limit. A call is named by the height of the log.
+# The table of bench/find.sh, and the limit. A call is named by the log's leaves, and by whether the letter is refused.
 
 function show(at,    ratio) {
     ratio = count["find", at] / count["check", at]
-    printf "%8s %6s %9.0f %9.0f %7.3f", "2^" at, at, count["check", at], count["find", at], ratio
+    printf "%-16s %9.0f %9.0f %7.3f", at, count["check", at], count["find", at], ratio
     if (timed) printf " %10.0f %8.0f", time["check", at], time["find", at]
     print ""
     if (ratio > worst) worst = ratio
 }
 
 END {
-    printf "\n%8s %6s %9s %9s %7s%s\n", "leaves", "items", "check", "find", "ratio", timed ? "  ns: check     find" : ""
+    printf "\n%-16s %9s %9s %7s%s\n", "leaves", "check", "find", "ratio", timed ? "  ns: check     find" : ""
     for (i = 1; i <= n; i++) show(rows[i])
     print ""
     held("the finder to the checker on a letter of 200 bytes, the worst row", worst, 2.2)

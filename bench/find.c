@@ -1,4 +1,4 @@
-/* The program that bench/find.sh counts: keeper_find on a letter of our own, and keeper_letter_check on the same letter. */
+/* The program that bench/find.sh counts: keeper_find on a letter, and keeper_letter_check on the same letter: our own, and one that both refuse. */
 #define _GNU_SOURCE
 #include <stdint.h>
 #include <stdlib.h>
@@ -13,13 +13,14 @@ static uint8_t *nodes;
 
 static uint8_t *node(uint64_t position) { return nodes + NODE * position; }
 
-static void demand(int holds, const char *what, unsigned height) {
+static void demand(int holds, const char *what, const char *name) {
     if (holds) return;
-    fprintf(stderr, "bench: find at 2^%u: %s\n", height, what);
+    fprintf(stderr, "bench: find at %s: %s\n", name, what);
     exit(1);
 }
 
-/* The nodes that a letter speaks of, in a log of 2^height leaves, which is one peak: the leaf, a sibling of any bytes on each height, and the parents. */
+/* The nodes that a letter speaks of, within a log's first peak, of 2^height leaves: the leaf, a sibling of any bytes on each height, and the parents.
+   Peaks to the right hold any bytes. */
 static void make_log(unsigned height, uint64_t index) {
     uint64_t at = 0;
     uint8_t pair[2 * NODE];
@@ -37,32 +38,46 @@ static void make_log(unsigned height, uint64_t index) {
     }
 }
 
-static void measure(unsigned height) {
-    uint64_t leaves = (uint64_t)1 << height, size = 2 * leaves - 1, index = 0x5A5A5A5A & (leaves - 1), checked = 0;
-    size_t room = NODE * size, length = 0, at = 0, record_length = 0;
+/* Checks and finds the letter that lies there, and demands of both the number. */
+static void measure(const char *name, uint64_t size, size_t length, uint32_t wanted) {
+    uint64_t checked = 0;
+    size_t room = NODE * size, at = 0, record_length = 0;
     uint32_t number = 1, found = 0;
-    char name[64];
-    snprintf(name, sizeof name, "%u", height);
-    make_log(height, index);
-    demand(keeper_root(size, nodes, room, root, NODE) == KEEPER_DONE, "no root", height);
-    number = keeper_letter_write(size, index, record, RECORD, nodes, room, letter, sizeof letter, &length);
-    demand(number == KEEPER_DONE, "no letter", height);
     MEASURE("check", name, number = keeper_letter_check(size, root, NODE, letter, length, &checked, &at, &record_length));
-    demand(number == KEEPER_DONE && checked == index, "the letter was refused", height);
+    demand(number == wanted, "the check answers another number", name);
     MEASURE("find", name,
             number = keeper_find(size, nodes, room, record, RECORD, letter, length, log_input, sizeof log_input, letter_input,
                                  sizeof letter_input, &found));
-    demand(number == KEEPER_DONE && found == KEEPER_SAME, "the finder did not say same", height);
+    demand(number == wanted, "the finder answers another number", name);
+    demand(wanted != KEEPER_DONE || found == KEEPER_SAME, "the finder did not say same", name);
+}
+
+/* A log of so many leaves, its first peak of 2^height: our letter, and the same with one bit of the record changed. */
+static void measure_log(const char *name, uint64_t leaves, unsigned height) {
+    uint64_t size = 0, index = 0x5A5A5A5A & (((uint64_t)1 << height) - 1);
+    size_t length = 0;
+    char refused[64];
+    snprintf(refused, sizeof refused, "%s refused", name);
+    demand(keeper_size(leaves, &size) == KEEPER_DONE, "no size", name);
+    make_log(height, index);
+    demand(keeper_root(size, nodes, NODE * size, root, NODE) == KEEPER_DONE, "no root", name);
+    uint32_t number = keeper_letter_write(size, index, record, RECORD, nodes, NODE * size, letter, sizeof letter, &length);
+    demand(number == KEEPER_DONE, "no letter", name);
+    measure(name, size, length, KEEPER_DONE);
+    letter[20] ^= 1;
+    measure(refused, size, length, KEEPER_OTHER_ROOT);
 }
 
 int main(int argc, char **argv) {
-    static const unsigned heights[] = {0, 10, MOST};
     timing = argc > 1 && strcmp(argv[1], "time") == 0;
     for (size_t i = 0; i < sizeof record; i++) record[i] = (uint8_t)(i % 251);
     nodes = calloc(((size_t)2 << MOST) - 1, NODE);
     if (!nodes) return 1;
     MEASURE("check", "nothing", (void)0);
-    for (size_t i = 0; i < sizeof heights / sizeof *heights; i++) measure(heights[i]);
+    measure_log("1", 1, 0);
+    measure_log("2^10", 1 << 10, 10);
+    measure_log("2^20", 1 << MOST, MOST);
+    measure_log("2^20-1", (1 << MOST) - 1, MOST - 1);
     free(nodes);
     return 0;
 }

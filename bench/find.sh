@@ -1,6 +1,6 @@
 #!/bin/sh
-# bench/find.sh: executed instructions of the finder on a letter of our own, of a record of 200 bytes, beside checking the same letter.
-# The log has 1, 2^10 or 2^20 leaves, of which only the nodes that the letter speaks of are made. Counted as by bench/digest.sh.
+# bench/find.sh: executed instructions of the finder on a letter of a record of 200 bytes, our own and one that is refused, beside checking the same
+# letter. The log has 1, 2^10, 2^20 or 2^20 - 1 leaves, of which only the nodes that the letter speaks of are made. Counted as by bench/digest.sh.
 # Exit status: 0 where the limit is met, 1 where it is missed or an answer is not what it should be, 2 where nothing could be measured.
 set -eu
 # shellcheck source=bench/common.sh
