@@ -19,8 +19,8 @@ static void demand(int holds, const char *what, const char *name) {
     exit(1);
 }
 
-/* The nodes that a letter speaks of, within a log's first peak, of 2^height leaves: the leaf, a sibling of any bytes on each height, and the parents.
-   Peaks to the right hold any bytes. */
+/* The nodes that a letter speaks of, within the leaf's peak, of 2^height leaves: the leaf, a sibling of any bytes on each height, and the parents.
+   The other peaks hold any bytes. */
 static void make_log(unsigned height, uint64_t index) {
     uint64_t at = 0;
     uint8_t pair[2 * NODE];
@@ -52,9 +52,9 @@ static void measure(const char *name, uint64_t size, size_t length, uint32_t wan
     demand(wanted != KEEPER_DONE || found == KEEPER_SAME, "the finder did not say same", name);
 }
 
-/* A log of so many leaves, its first peak of 2^height: our letter, and the same with one bit of the record changed. */
-static void measure_log(const char *name, uint64_t leaves, unsigned height) {
-    uint64_t size = 0, index = 0x5A5A5A5A & (((uint64_t)1 << height) - 1);
+/* A log of so many leaves, the peak of the index of 2^height: our letter, and the same with one bit of the record changed. */
+static void measure_log(const char *name, uint64_t leaves, unsigned height, uint64_t index) {
+    uint64_t size = 0;
     size_t length = 0;
     char refused[64];
     snprintf(refused, sizeof refused, "%s refused", name);
@@ -74,10 +74,11 @@ int main(int argc, char **argv) {
     nodes = calloc(((size_t)2 << MOST) - 1, NODE);
     if (!nodes) return 1;
     MEASURE("check", "nothing", (void)0);
-    measure_log("1", 1, 0);
-    measure_log("2^10", 1 << 10, 10);
-    measure_log("2^20", 1 << MOST, MOST);
-    measure_log("2^20-1", (1 << MOST) - 1, MOST - 1);
+    measure_log("1", 1, 0, 0);
+    measure_log("2^10", 1 << 10, 10, 0x25A);
+    measure_log("2^20", 1 << MOST, MOST, 0xA5A5A);
+    measure_log("2^20-1 first", (1 << MOST) - 1, MOST - 1, 0x25A5A);
+    measure_log("2^20-1 last", (1 << MOST) - 1, 0, (1 << MOST) - 2);
     free(nodes);
     return 0;
 }
