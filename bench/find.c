@@ -1,17 +1,32 @@
-/* The program that bench/find.sh counts: keeper_find on a letter, and keeper_letter_check on the same letter: our own, and one that both refuse. */
+/* The program that bench/find.sh counts: keeper_find on a letter, our own and one that is refused; keeper_letter_check on the same letter; and the
+   finder's digests alone, by BLAKE3's portable C by two compilers, whose roots are compared with the keeper's. */
 #define _GNU_SOURCE
 #include <stdint.h>
 #include <stdlib.h>
+#include <sys/mman.h>
 #include "keeper.h"
 #include "marks.h"
 
+/* theirs, by two compilers (theirs.c) */
+typedef void Digest(const uint8_t *bytes, size_t length, uint8_t out[32]);
+Digest gcc_digest, clang_digest;
+
 #define NODE 32
 #define RECORD 200
-#define MOST 20
-static uint8_t record[RECORD], letter[20 + RECORD + MOST * NODE], root[NODE], log_input[2 * NODE], letter_input[2 * NODE];
-static uint8_t *nodes;
+#define HEAD 20
+#define MOST 28
+static uint8_t record[RECORD], letter[HEAD + RECORD + MOST * NODE], root[NODE], log_input[2 * NODE], letter_input[2 * NODE];
+static uint8_t worked[NODE], folded[NODE], *nodes;
+
+/* A log, and an index in it whose peak has 2^height leaves. */
+typedef struct {
+    const char *name;
+    uint64_t leaves, index, size;
+    unsigned height;
+} Log;
 
 static uint8_t *node(uint64_t position) { return nodes + NODE * position; }
+static uint8_t *item(unsigned k) { return letter + HEAD + RECORD + NODE * k; }
 
 static void demand(int holds, const char *what, const char *name) {
     if (holds) return;
@@ -19,16 +34,16 @@ static void demand(int holds, const char *what, const char *name) {
     exit(1);
 }
 
-/* The nodes that a letter speaks of, within the leaf's peak, of 2^height leaves: the leaf, a sibling of any bytes on each height, and the parents.
-   The other peaks hold any bytes. */
-static void make_log(unsigned height, uint64_t index) {
+/* The nodes that a letter speaks of, within the leaf's peak: the leaf, a sibling of any bytes on each height, and the parents. The other peaks hold
+   any bytes. */
+static void make_log(const Log *log) {
     uint64_t at = 0;
     uint8_t pair[2 * NODE];
-    keeper_leaf_position(index, &at);
+    keeper_leaf_position(log->index, &at);
     keeper_digest(record, RECORD, node(at), NODE);
-    for (unsigned k = 0; k < height; k++) {
+    for (unsigned k = 0; k < log->height; k++) {
         uint64_t below = ((uint64_t)2 << k) - 1;
-        int is_right = index >> k & 1;
+        int is_right = log->index >> k & 1;
         uint64_t sibling = is_right ? at - below : at + below;
         memset(node(sibling), (int)(k + 1), NODE);
         memcpy(pair + (is_right ? NODE : 0), node(at), NODE);
@@ -38,47 +53,102 @@ static void make_log(unsigned height, uint64_t index) {
     }
 }
 
+/* ---- the finder's digests alone */
+
+static void parent(Digest *digest, const uint8_t *left, const uint8_t *right, uint8_t *out) {
+    uint8_t pair[2 * NODE];
+    memcpy(pair, left, NODE);
+    memcpy(pair + NODE, right, NODE);
+    digest(pair, sizeof pair, out);
+}
+
+/* The letter's root: its record, the siblings from the leaf upward, the peaks to the right, those to the left. */
+static void letter_digests(Digest *digest, const Log *log) {
+    unsigned left = (unsigned)__builtin_popcountll(log->leaves >> log->height >> 1);
+    digest(letter + HEAD, RECORD, worked);
+    for (unsigned k = 0; k < log->height; k++) {
+        if (log->index >> k & 1) parent(digest, item(left + k), worked, worked);
+        else parent(digest, worked, item(left + k), worked);
+    }
+    if (log->leaves & (((uint64_t)1 << log->height) - 1)) parent(digest, worked, item(left + log->height), worked);
+    while (left-- > 0) parent(digest, item(left), worked, worked);
+}
+
+/* The log's own peaks, folded from the right: those to the right of the index's, or all. Where no input differs, the digests above them are the
+   letter's and are not worked out again. */
+static void log_digests(Digest *digest, const Log *log, int all) {
+    uint64_t at = log->size - 1, some = 0;
+    for (unsigned h = 0; log->leaves >> h; h++) {
+        if (!(log->leaves >> h & 1)) continue;
+        if (h >= log->height && !all) return;
+        if (some++) parent(digest, node(at), folded, folded);
+        else memcpy(folded, node(at), NODE);
+        at -= ((uint64_t)2 << h) - 1;
+    }
+}
+
+static void digests(Digest *digest, const Log *log, int refused) {
+    letter_digests(digest, log);
+    log_digests(digest, log, refused);
+}
+
+/* Our letter's root is the log's; of a refused one the fold is. */
+static void compare(int refused, const char *name) {
+    demand(memcmp(refused ? folded : worked, root, NODE) == 0, "the digests alone have another root", name);
+    demand(!refused || memcmp(worked, root, NODE) != 0, "a letter to be refused has the root", name);
+    memset(worked, 0, NODE);
+    memset(folded, 0, NODE);
+}
+
+/* ---- one letter */
+
 /* Checks and finds the letter that lies there, and demands of both the number. */
-static void measure(const char *name, uint64_t size, size_t length, uint32_t wanted) {
+static void measure(const char *name, const Log *log, size_t length, uint32_t wanted) {
     uint64_t checked = 0;
-    size_t room = NODE * size, at = 0, record_length = 0;
+    size_t at = 0, record_length = 0;
     uint32_t number = 1, found = 0;
-    MEASURE("check", name, number = keeper_letter_check(size, root, NODE, letter, length, &checked, &at, &record_length));
+    MEASURE("check", name, number = keeper_letter_check(log->size, root, NODE, letter, length, &checked, &at, &record_length));
     demand(number == wanted, "the check answers another number", name);
     MEASURE("find", name,
-            number = keeper_find(size, nodes, room, record, RECORD, letter, length, log_input, sizeof log_input, letter_input,
+            number = keeper_find(log->size, nodes, NODE * log->size, record, RECORD, letter, length, log_input, sizeof log_input, letter_input,
                                  sizeof letter_input, &found));
     demand(number == wanted, "the finder answers another number", name);
     demand(wanted != KEEPER_DONE || found == KEEPER_SAME, "the finder did not say same", name);
+    MEASURE("gcc", name, digests(gcc_digest, log, wanted != KEEPER_DONE));
+    compare(wanted != KEEPER_DONE, name);
+    MEASURE("clang", name, digests(clang_digest, log, wanted != KEEPER_DONE));
+    compare(wanted != KEEPER_DONE, name);
 }
 
-/* A log of so many leaves, the peak of the index of 2^height: our letter, and the same with one bit of the record changed. */
-static void measure_log(const char *name, uint64_t leaves, unsigned height, uint64_t index) {
-    uint64_t size = 0;
+/* Our letter, and the same with one bit of the record changed. */
+static void measure_log(Log log) {
     size_t length = 0;
     char refused[64];
-    snprintf(refused, sizeof refused, "%s refused", name);
-    demand(keeper_size(leaves, &size) == KEEPER_DONE, "no size", name);
-    make_log(height, index);
-    demand(keeper_root(size, nodes, NODE * size, root, NODE) == KEEPER_DONE, "no root", name);
-    uint32_t number = keeper_letter_write(size, index, record, RECORD, nodes, NODE * size, letter, sizeof letter, &length);
-    demand(number == KEEPER_DONE, "no letter", name);
-    measure(name, size, length, KEEPER_DONE);
-    letter[20] ^= 1;
-    measure(refused, size, length, KEEPER_OTHER_ROOT);
+    snprintf(refused, sizeof refused, "%s refused", log.name);
+    demand(keeper_size(log.leaves, &log.size) == KEEPER_DONE, "no size", log.name);
+    make_log(&log);
+    demand(keeper_root(log.size, nodes, NODE * log.size, root, NODE) == KEEPER_DONE, "no root", log.name);
+    uint32_t number = keeper_letter_write(log.size, log.index, record, RECORD, nodes, NODE * log.size, letter, sizeof letter, &length);
+    demand(number == KEEPER_DONE, "no letter", log.name);
+    measure(log.name, &log, length, KEEPER_DONE);
+    letter[HEAD] ^= 1;
+    measure(refused, &log, length, KEEPER_OTHER_ROOT);
 }
 
 int main(int argc, char **argv) {
+    static const uint64_t high = (uint64_t)1 << MOST;
     timing = argc > 1 && strcmp(argv[1], "time") == 0;
     for (size_t i = 0; i < sizeof record; i++) record[i] = (uint8_t)(i % 251);
-    nodes = calloc(((size_t)2 << MOST) - 1, NODE);
-    if (!nodes) return 1;
+    nodes = mmap(NULL, NODE * (2 * high - 1), PROT_READ | PROT_WRITE, MAP_PRIVATE | MAP_ANONYMOUS | MAP_NORESERVE, -1, 0);
+    demand(nodes != MAP_FAILED, "no room for the nodes", "the start");
+    gcc_digest(record, 0, worked); /* at its first call BLAKE3's C asks the processor what it can do: not measured */
+    clang_digest(record, 0, worked);
     MEASURE("check", "nothing", (void)0);
-    measure_log("1", 1, 0, 0);
-    measure_log("2^10", 1 << 10, 10, 0x25A);
-    measure_log("2^20", 1 << MOST, MOST, 0xA5A5A);
-    measure_log("2^20-1 first", (1 << MOST) - 1, MOST - 1, 0x25A5A);
-    measure_log("2^20-1 last", (1 << MOST) - 1, 0, (1 << MOST) - 2);
-    free(nodes);
+    measure_log((Log){"1", 1, 0, 0, 0});
+    measure_log((Log){"2^10", 1 << 10, 0x25A, 0, 10});
+    measure_log((Log){"2^20", 1 << 20, 0xA5A5A, 0, 20});
+    measure_log((Log){"2^20-1 first", (1 << 20) - 1, 0x25A5A, 0, 19});
+    measure_log((Log){"2^20-1 last", (1 << 20) - 1, (1 << 20) - 2, 0, 0});
+    measure_log((Log){"2^28-1 first", high - 1, 0x25A5A5A, 0, MOST - 1});
     return 0;
 }

@@ -17,22 +17,24 @@ from pathlib import Path
 
 TOP = Path(__file__).resolve().parent.parent
 sys.path.insert(0, str(TOP / "tools"))
-import second  # noqa: E402
-from second import LONGEST_RECORD, NODE, nodes_of  # noqa: E402
+from expected.given import run_record  # noqa: E402
+from rules import letters, log, shape  # noqa: E402
+from rules.log import LONGEST_RECORD, NODE  # noqa: E402
+from rules.shape import nodes_of  # noqa: E402
 
 KEEPER = os.environ.get("KEEPER", str(TOP / "target" / "hosts" / "keeper"))
 LOSSY = os.environ.get("LOSSY")
 NODES = 8192  # where the nodes begin in a log's file
 SLOT = 4096  # where the second of the two sizes stands
-RECORDS = [second.run_record(number, length) for number, length in enumerate((0, 1, 31, 200, 64, 1025, 32, 5, 16384, 7, 100, 3))]
+RECORDS = [run_record(number, length) for number, length in enumerate((0, 1, 31, 200, 64, 1025, 32, 5, 16384, 7, 100, 3))]
 
 
 def said_of(records):
     """What the second program says of a log of these records: size, root, nodes."""
     nodes, size = bytearray(NODE * nodes_of(len(records))), 0
     for record in records:
-        size = second.append(size, record, nodes).size
-    return size, second.root(size, nodes).digest, bytes(nodes)
+        size = log.append(size, record, nodes).size
+    return size, log.root(size, nodes).digest, bytes(nodes)
 
 
 def stream_of(records):
@@ -109,7 +111,7 @@ class Appends(HostTest):
         self.holds(RECORDS[:6])
 
     def test_stream(self):
-        records = [second.run_record(i, i % 90) for i in range(3000)]
+        records = [run_record(i, i % 90) for i in range(3000)]
         self.done("append", self.log, "--stream", given=stream_of(records))
         size, top, _ = said_of(records)
         self.assertEqual(self.done("root", self.log), f"{size} {top.hex()}\n".encode())
@@ -142,7 +144,7 @@ class Letters(HostTest):
         size, top, nodes = said_of(RECORDS)
         for index, record in enumerate(RECORDS):
             letter = self.done("letter", self.log, index, given=record)
-            self.assertEqual(letter, second.letter_of(size, index, record, nodes))
+            self.assertEqual(letter, letters.letter_of(size, index, record, nodes))
             line = self.done("check", size, top.hex(), "--record", self.folder / "record", given=letter)
             self.assertEqual(line, f"accepted: index {index}, a record of {len(record)} bytes\n".encode())
             self.assertEqual((self.folder / "record").read_bytes(), record)
@@ -160,7 +162,7 @@ class Letters(HostTest):
 
     def test_checker_refuses(self):
         size, top, nodes = said_of(RECORDS)
-        letter = second.letter_of(size, 3, RECORDS[3], nodes)
+        letter = letters.letter_of(size, 3, RECORDS[3], nodes)
         check = ("check", size, top.hex())
         self.refused(1, "check", 2, top.hex(), given=letter)
         self.refused(12, "check", size, top.hex()[:-2], given=letter)
@@ -177,7 +179,7 @@ class Letters(HostTest):
     def test_finder_refuses(self):
         self.make(RECORDS[:4])
         size, _, nodes = said_of(RECORDS[:4])
-        letter = self.file("letter", second.letter_of(size, 1, RECORDS[1], nodes))
+        letter = self.file("letter", letters.letter_of(size, 1, RECORDS[1], nodes))
         self.refused(13, "find", self.log, self.file("other", b"other"), letter)
         self.refused(9, "find", self.log, self.file("own", RECORDS[1]), self.file("changed", letter.read_bytes()[:-1] + b"\0"))
         with open(self.log, "r+b") as log:
@@ -227,7 +229,7 @@ class Crashes(HostTest):
     def records_in(self, path):
         """How many records a log has; a log that is missing or empty has none."""
         ran = keeper("root", path)
-        return second.leaf_count(int(ran.stdout.split()[0]))[1] if ran.returncode == 0 else 0
+        return shape.leaf_count(int(ran.stdout.split()[0]))[1] if ran.returncode == 0 else 0
 
     def test_cut(self):
         self.make(RECORDS[:3], RECORDS[3:5])
@@ -262,7 +264,7 @@ class Crashes(HostTest):
         self.failed("were changed", "root", self.file("damaged", whole))
 
     def test_killed(self):
-        chance, records, kept = random.Random(1), [second.run_record(i, 40) for i in range(60)], 0
+        chance, records, kept = random.Random(1), [run_record(i, 40) for i in range(60)], 0
         for _ in range(12):
             writer = subprocess.Popen([KEEPER, "append", self.log, "--stream"], stdin=subprocess.PIPE, stdout=subprocess.DEVNULL)
             writer.stdin.write(stream_of(records[kept:kept + 6])[:chance.randrange(40, 250)])

@@ -2,7 +2,7 @@
 """The calls for C from outside: the library and the second program answer the same thousands of true, random and damaged inputs.
 
 A C program, hosts/bridge.c, makes each call on buffers that lie against forbidden pages and hands back the number and every byte that it lent,
-result variables too. What tools/second.py says is compared with all of it. The finder's "records" and "pair" are two strings of one digest:
+result variables too. What the second program says is compared with all of it. The finder's "records" and "pair" are two strings of one digest:
 nobody has such strings, so of its answers only "same" and the refusals are met here.
 
     outside.py                        build the bridge and compare
@@ -20,9 +20,10 @@ import sys
 from collections import Counter, namedtuple
 from pathlib import Path
 
-import second
-from inputs import Case, cases, digest, flipped, u32, u64
-from second import NODE
+from inputs import cases
+from inputs.world import Case, digest, flipped, u32, u64
+from rules import finder, letters, log, shape, stored
+from rules.log import NODE
 
 TOP = Path(__file__).resolve().parent.parent
 ROUNDS = 8000
@@ -39,28 +40,28 @@ def say_digest(numbers, data, out):
 
 
 def say_size(numbers, size):
-    number, value = second.size_of(*numbers)
+    number, value = shape.size_of(*numbers)
     return number, [u64(value)]
 
 
 def say_leaf_position(numbers, position):
-    number, value = second.leaf_position(*numbers)
+    number, value = shape.leaf_position(*numbers)
     return number, [u64(value)]
 
 
 def say_leaf_count(numbers, leaves):
-    number, value = second.leaf_count(*numbers)
+    number, value = shape.leaf_count(*numbers)
     return number, [u64(value)]
 
 
 def say_append(numbers, record, nodes, new_size, hashes):
     buffer = bytearray(nodes)
-    answer = second.append(*numbers, record, buffer, digest)
+    answer = log.append(*numbers, record, buffer, digest)
     return answer.number, [record, bytes(buffer), u64(answer.size), u64(answer.count)]
 
 
 def say_root(numbers, nodes, out):
-    number, top = second.root(*numbers, nodes, digest)
+    number, top = log.root(*numbers, nodes, digest)
     if number == 0 and len(out) < NODE:
         number = 6
     return number, [nodes, top + out[NODE:]]
@@ -68,36 +69,36 @@ def say_root(numbers, nodes, out):
 
 def say_letter_write(numbers, record, nodes, out, length):
     buffer = bytearray(out)
-    answer = second.write_letter(*numbers, record, nodes, buffer, digest)
+    answer = letters.write_letter(*numbers, record, nodes, buffer, digest)
     return answer.number, [record, nodes, bytes(buffer), u64(answer.length)]
 
 
 def say_letter_check(numbers, top, letter, index, record_at, record_len):
-    answer = second.check_letter(*numbers, top, letter, digest)
+    answer = letters.check_letter(*numbers, top, letter, digest)
     return answer.number, [top, letter, u64(answer.index), u64(answer.start), u64(answer.length)]
 
 
 def say_find(numbers, nodes, record, letter, log_input, letter_input, found):
     ours, theirs = bytearray(log_input), bytearray(letter_input)
-    answer = second.find(*numbers, record, nodes, letter, ours, theirs, digest)
+    answer = finder.find(*numbers, record, nodes, letter, ours, theirs, digest)
     kind = {None: 0, "same": 1, "records": 2, "pair": 3}[answer.outcome]
     return answer.number, [nodes, record, letter, bytes(ours), bytes(theirs), u32(kind)]
 
 
 def say_store_leaf(numbers, record, out, length):
     buffer = bytearray(out)
-    number, written = second.write_stored_leaf(record, buffer)
+    number, written = stored.write_stored_leaf(record, buffer)
     return number, [record, bytes(buffer), u64(written)]
 
 
 def say_store_inner(numbers, given, out, length):
     buffer = bytearray(out)
-    number, written = (12, 0) if len(given) != NODE else second.write_stored_inner(given, buffer)
+    number, written = (12, 0) if len(given) != NODE else stored.write_stored_inner(given, buffer)
     return number, [given, bytes(buffer), u64(written)]
 
 
 def say_read_node(numbers, data, kind, out, record_at, record_len):
-    read = second.read_stored(data)
+    read = stored.read_stored(data)
     number = 6 if read.number == 0 and len(out) < NODE else read.number
     leaf = read.kind == "leaf"
     return number, [data, u32(leaf), read.digest + out[NODE:], u64(37 if leaf else 0), u64(len(read.record))]

@@ -1,0 +1,193 @@
+"""The rules tried on published figures, on the marked examples and on each other."""
+import zlib
+from collections import Counter
+from pathlib import Path
+
+from expected.given import counting_bytes, flips_of, letter_in, record_of, log_of, run_record
+from rules.blake3 import PLAIN, digest, keyed
+from rules.finder import PAIR, find, log_inputs
+from rules.letters import LETTER_HEAD, WHOLE_LETTER, check_letter, index_in, items_in, letter_bytes, letter_inputs, letter_of, record_in, size_in
+from rules.log import LONGEST_RECORD, NODE, append, folded, node, plain_root, root
+from rules.shape import items_of, leaf_count, leaf_position, nodes_of, size_of, trailing_ones
+
+PUBLISHED = Path(__file__).resolve().parent / "vectors" / "blake3-published.txt"
+PUBLISHED_KEY = b"whats the Elvish word for friend"
+
+
+def published_figures():
+    """The published figures: length, plain hash, keyed hash."""
+    for line in PUBLISHED.read_text().splitlines():
+        if not line.startswith("#"):
+            length, plain, with_key = line.split()
+            yield int(length), plain, with_key
+
+
+def check_mode(name, mode, figures):
+    """Compare one mode with its published figures: a line for each difference, then one for the group."""
+    wrong = 0
+    for length, published in figures:
+        ours = digest(counting_bytes(length), mode).hex()
+        if ours != published:
+            wrong += 1
+            print(f"{name}, {length} bytes: {ours}, but {published} is published")
+    print(f"{name}: {len(figures) - wrong} of {len(figures)} published digests agree")
+    return bool(figures) and wrong == 0
+
+
+def marked_examples():
+    """The marked examples: name, what the rules give, what is marked."""
+    for leaves, marked in enumerate((0, 1, 3, 4, 7, 8, 10, 11, 15)):
+        yield f"M{leaves + 1}", size_of(leaves), (0, marked)
+    yield "M10", leaf_count(2), (1, 0)
+    yield "M11", leaf_position(2), (0, 3)
+    yield "M12", leaf_position(7), (0, 11)
+    yield "M13", append(11, b"", bytearray(NODE * 15)).count, 4
+    yield "M14", items_of(5, 2), [(4,), (2,), (7,)]
+    yield "M15", items_of(7, 4), [(6,), (8,), (10,)]
+    yield "M16", items_of(7, 0), [(1,), (5,), (9, 10)]
+
+
+def check_marked():
+    """Compare the rules with the marked examples."""
+    wrong = [(name, got, marked) for name, got, marked in marked_examples() if got != marked]
+    for name, got, marked in wrong:
+        print(f"{name}: {got}, but {marked} is marked")
+    total = len(list(marked_examples()))
+    print(f"marked: {total - len(wrong)} of {total} examples agree")
+    return not wrong
+
+
+def check_logs(most):
+    """Logs of 1 to most records: counts, sizes and positions by two rules each, and the root by the plain rule."""
+    buffer, size, leaves, good = bytearray(NODE * nodes_of(most)), 0, [], 0
+    for i in range(most):
+        answer = append(size, run_record(i, i), buffer)
+        leaves.append(digest(run_record(i, i)))
+        good += (
+            answer == (0, nodes_of(i + 1), 1 + trailing_ones(i))
+            and leaf_count(answer.size) == (0, i + 1)
+            and node(buffer, nodes_of(i)) == leaves[i]
+            and root(answer.size, buffer) == (0, plain_root(leaves))
+        )
+        size = answer.size
+    print(f"logs: {good} of {most} keep size, count, leaf position and the plain rule of the root")
+    return good == most
+
+
+def marked_letters():
+    """The letters of the marked examples M14 to M16: name, the items in the letter's bytes, the digests at the marked positions."""
+    for name, leaves, index, marked in (("M14", 5, 2, [[4], [2], [7]]), ("M15", 7, 4, [[6], [8], [10]]), ("M16", 7, 0, [[1], [5], [9, 10]])):
+        nodes = log_of(leaves)[1]
+        yield name, items_in(letter_in(leaves, index)[2]), [folded([node(nodes, position) for position in item]) for item in marked]
+
+
+def check_letters(most):
+    """Every letter of logs of 1 to most records is accepted, gives its record and is found the same; the marked letters; the whole letter; flips."""
+    good, buffer, size = 0, bytearray(NODE * nodes_of(most)), 0
+    for leaves in range(1, most + 1):
+        size = append(size, run_record(leaves - 1, leaves - 1), buffer).size
+        for index in range(leaves):
+            record = run_record(index, index)
+            letter = letter_of(size, index, record, buffer)
+            good += (
+                check_letter(size, root(size, buffer).digest, letter) == (0, index, LETTER_HEAD, index)
+                and record_in(letter) == record
+                and find(size, record, buffer, letter, bytearray(PAIR), bytearray(PAIR)) == (0, "same")
+            )
+    total = most * (most + 1) // 2
+    print(f"letters: {good} of {total} are accepted, give their record and are found the same")
+    marked = [name for name, items, digests in marked_letters() if items == digests]
+    print(f"letters: the items of {', '.join(marked)} are those at the marked positions")
+    whole = letter_of(1, 0, b"", digest(b"")) == WHOLE_LETTER and check_letter(1, digest(b""), WHOLE_LETTER) == (0, 0, LETTER_HEAD, 0)
+    size, top, letter = letter_in(7, 2)
+    flipped = [check_letter(size, top, other).number for other in flips_of(letter)]
+    print(f"letters: of {len(flipped)} with one bit flipped {flipped.count(0)} are accepted")
+    return good == total and len(marked) == 3 and whole and flipped.count(0) == 0
+
+
+def toy_digest(data):
+    """A digest with collisions everywhere: one byte, and zeros."""
+    return zlib.crc32(data).to_bytes(4, "big")[:1].ljust(NODE, b"\0")
+
+
+def with_others(letter, place):
+    """A letter with other bytes in place of its record, place 0, or of one of its items, from place 1 on."""
+    for number in range(1, 10000):
+        parts = [record_in(letter), *items_in(letter)]
+        parts[place] = number.to_bytes(8, "big") + bytes(NODE - 8)
+        yield letter_bytes(size_in(letter), index_in(letter), parts[0], parts[1:])
+
+
+def other_letters(size, top, letter):
+    """For each such place an accepted letter with other bytes there, and what the finder is to say of it."""
+    for place in range(1 + len(items_in(letter))):
+        shown = next(other for other in with_others(letter, place) if check_letter(size, top, other, toy_digest).number == 0)
+        one_digest = toy_digest(record_in(shown)) == toy_digest(record_in(letter))
+        yield "records" if place == 0 and one_digest else "pair", shown
+
+
+def found_rightly(kind, size, record, buffer, letter):
+    """Whether the finder's answer is of this kind, with two strings of one digest at one place and no other byte changed."""
+    ours, theirs = bytearray(b"\5" * (PAIR + 1)), bytearray(b"\6" * (PAIR + 1))
+    if find(size, record, buffer, letter, ours, theirs, toy_digest) != (0, kind):
+        return False
+    if kind != "pair":
+        return ours == b"\5" * (PAIR + 1) and theirs == b"\6" * (PAIR + 1)
+    leaves = leaf_count(size)[1]
+    places = zip(log_inputs(leaves, index_in(letter), buffer, toy_digest), letter_inputs(leaves, letter, toy_digest))
+    return (
+        ours[:PAIR] != theirs[:PAIR] and toy_digest(ours[:PAIR]) == toy_digest(theirs[:PAIR])
+        and (ours[:PAIR], theirs[:PAIR]) in list(places) and ours[PAIR:] == b"\5" and theirs[PAIR:] == b"\6"
+    )
+
+
+def check_finder(most):
+    """With the toy digest: every letter of small logs, and for each part of it an accepted letter that differs there."""
+    counts, wrong, buffer, size = Counter(), 0, bytearray(NODE * nodes_of(most)), 0
+    for leaves in range(1, most + 1):
+        size = append(size, run_record(leaves - 1, 5), buffer, toy_digest).size
+        for index in range(leaves):
+            record = run_record(index, 5)
+            letter = letter_of(size, index, record, buffer, toy_digest)
+            for kind, shown in [("same", letter), *other_letters(size, root(size, buffer, toy_digest).digest, letter)]:
+                counts[kind] += 1
+                wrong += not found_rightly(kind, size, record, buffer, shown)
+    print(f"finder: {', '.join(f'{count} {kind}' for kind, count in counts.items())}; {wrong} are not what they should be")
+    return wrong == 0 and set(counts) == {"same", "records", "pair"}
+
+
+def finder_refusals():
+    """Calls of the finder on a log of four: the number, and what differs from a call that is done."""
+    size, buffer = log_of(4)
+    record, letter = record_of(0), letter_of(size, 0, record_of(0), buffer)
+    done = {"size": size, "record": record, "buffer": buffer, "letter": letter, "ours": bytearray(PAIR), "theirs": bytearray(PAIR)}
+    inner = buffer[:NODE * 2] + bytes(NODE) + buffer[NODE * 3:]
+    for number, change in (
+        (0, {}), (1, {"size": 2, "buffer": b""}), (10, {"size": 0, "buffer": b""}), (4, {"buffer": buffer[:-1], "letter": b""}),
+        (7, {"letter": letter[:19]}), (8, {"letter": b"\1" + letter[1:]}), (5, {"letter": letter[:15] + b"\4" + letter[16:]}),
+        (3, {"letter": letter[:16] + b"\1" + letter[17:]}), (7, {"letter": letter + b"\0"}),
+        (9, {"letter": letter[:-1] + bytes([letter[-1] ^ 1]), "record": b"other"}),
+        (3, {"record": bytes(LONGEST_RECORD + 1), "buffer": inner}), (13, {"record": b"other", "buffer": inner}),
+        (14, {"buffer": inner, "ours": bytearray()}), (6, {"ours": bytearray(PAIR - 1)}), (6, {"theirs": bytearray(PAIR - 1)}),
+    ):
+        yield number, find(**{**done, **change}).number
+
+
+def check_finder_order():
+    """The finder's refusals, each at its place in the order."""
+    wrong = [(number, got) for number, got in finder_refusals() if number != got]
+    print(f"finder: {len(list(finder_refusals())) - len(wrong)} calls give the first number that applies; {len(wrong)} do not")
+    return not wrong
+
+
+def check():
+    """Try the rules on the published figures, on the marked examples and on each other."""
+    figures = list(published_figures())
+    good = check_mode("plain", PLAIN, [(n, plain) for n, plain, _ in figures])
+    good &= check_mode("keyed", keyed(PUBLISHED_KEY), [(n, with_key) for n, _, with_key in figures])
+    good &= check_marked()
+    good &= check_logs(70)
+    good &= check_letters(20)
+    good &= check_finder(9)
+    good &= check_finder_order()
+    return good

@@ -1,0 +1,1 @@
+"""What the crates' programs must write, by the rules: a module for each program."""

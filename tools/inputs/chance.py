@@ -1,0 +1,189 @@
+"""The random cases: a true input with some of its parts changed, or none."""
+import random
+from collections import namedtuple
+
+from inputs.world import EDGES, LEAVES, LENGTHS, Case, digest, flipped
+from rules import letters, shape, stored
+from rules.finder import PAIR
+from rules.log import LONGEST_RECORD, NODE
+from rules.shape import MOST_LEAVES, nodes_of
+
+
+class Chance(random.Random):
+    """The random choices of one case, from the seed and the case's number alone."""
+
+    def often(self, true, *others):
+        """The true one in two of three cases, else one of the others."""
+        return true if self.random() < 2 / 3 else self.choice(others)
+
+    def number(self):
+        """A number of up to 64 bits, small ones as often as large ones."""
+        return self.getrandbits(self.randrange(1, 65))
+
+    def size(self, leaves):
+        """The size of so many leaves, or another number."""
+        near = nodes_of(leaves)
+        full = nodes_of(MOST_LEAVES)
+        return self.often(near, near + 1, max(near - 1, 0), nodes_of(leaves + 1), nodes_of(self.getrandbits(32)), full, 0, self.choice(EDGES),
+                          self.number())
+
+    def room(self, wanted):
+        """A length: as wanted, or one less, more, or another."""
+        return self.often(wanted, max(wanted - 1, 0), wanted + 1, 0, self.randrange(wanted + 1), wanted + self.randrange(200))
+
+    def out(self, wanted):
+        """An output buffer of such a length, with any bytes."""
+        return self.randbytes(self.room(wanted))
+
+    def damage(self, data):
+        """The bytes with one changed, some cut off or added, or others of their number."""
+        place = self.randrange(len(data)) if data else 0
+        other = flipped(data, place, self.randrange(1, 256)) if data else b"\0"
+        return self.choice((other, other, other, data[:place], data + self.randbytes(self.randrange(1, 40)), self.randbytes(len(data))))
+
+    def bytes_like(self, data):
+        """The bytes, or damaged ones."""
+        return self.often(data, self.damage(data))
+
+    def variable(self):
+        """A result variable of 64 bits that holds anything."""
+        return self.randbytes(8)
+
+
+def any_record(chance, world, index):
+    """A log's record, or another."""
+    length = chance.choice((chance.randrange(100), chance.randrange(3000), chance.randrange(LONGEST_RECORD + 2), chance.choice(LENGTHS)))
+    others = (chance.choice(world.records), chance.damage(world.records[index]), chance.randbytes(length), world.longer)
+    return chance.often(world.records[index], *others)
+
+
+def any_nodes(chance, world, leaves, wanted):
+    """A node buffer for so many leaves and a wanted length: true nodes, sometimes damaged, and anything behind them."""
+    nodes = world.nodes(leaves) + chance.randbytes(max(wanted - NODE * nodes_of(leaves), 0))
+    if nodes and chance.random() < 0.3:
+        nodes = flipped(nodes, chance.randrange(len(nodes)), chance.randrange(1, 256))
+    length = chance.room(wanted)
+    return nodes[:length] + chance.randbytes(max(length - len(nodes), 0))
+
+
+def with_field(chance, letter):
+    """A letter with one of its numbers replaced: size, index or record length."""
+    start, end = chance.choice(((0, 8), (8, 16), (16, 20)))
+    old = int.from_bytes(letter[start:end], "big")
+    number = chance.choice((old + 1, max(old - 1, 0), old ^ 1 << chance.randrange(8 * (end - start)), chance.choice(EDGES), chance.number()))
+    return letter[:start] + (number % 256 ** (end - start)).to_bytes(end - start, "big") + letter[end:]
+
+
+def with_items(chance, letter):
+    """A letter with an item more, one less, two changed about, or another record in front of the same items."""
+    items, record = letters.items_in(letter), letters.record_in(letter)
+    how = chance.randrange(4)
+    if how == 0 or not items:
+        items = items + [chance.randbytes(NODE)]
+    elif how == 1:
+        items.pop(chance.randrange(len(items)))
+    elif how == 2:
+        chance.shuffle(items)
+    else:
+        record = chance.damage(record)
+    return letters.letter_bytes(letters.size_in(letter), letters.index_in(letter), record, items)
+
+
+def any_letter(chance, world, leaves, index):
+    """A letter of the log, or one that was changed, or another's."""
+    letter = world.letter(leaves, index)
+    how = chance.randrange(8)
+    if how < 3:
+        return letter
+    if how == 3:
+        return with_field(chance, letter)
+    if how == 4:
+        return with_items(chance, letter)
+    if how == 5:
+        others = chance.randrange(1, LEAVES + 1)
+        return world.letter(others, chance.randrange(others))
+    return chance.damage(letter)
+
+
+# What a random case begins with: a log of so many leaves, an index in it, and a size and a record that are often theirs.
+Given = namedtuple("Given", "leaves index size record")
+
+
+def any_given(chance, world):
+    """Any of them."""
+    leaves = chance.randrange(1, LEAVES)
+    index = chance.randrange(leaves)
+    return Given(leaves, index, chance.size(leaves), any_record(chance, world, index))
+
+
+def random_digest(chance, world, given):
+    return Case("digest", (), [given.record, chance.out(NODE)])
+
+
+def random_number(chance, world, given):
+    call = chance.choice(("size", "leaf_position", "leaf_count"))
+    return Case(call, (chance.choice((given.size, given.leaves, chance.number(), chance.choice(EDGES))),), [chance.variable()])
+
+
+def random_append(chance, world, given):
+    nodes = any_nodes(chance, world, given.leaves, NODE * nodes_of(given.leaves + 1))
+    return Case("append", (given.size,), [given.record, nodes, chance.variable(), chance.variable()])
+
+
+def random_root(chance, world, given):
+    return Case("root", (given.size,), [any_nodes(chance, world, given.leaves, NODE * nodes_of(given.leaves)), chance.out(NODE)])
+
+
+def random_letter_write(chance, world, given):
+    index = chance.often(given.index, given.leaves, chance.randrange(given.leaves), chance.number())
+    nodes = any_nodes(chance, world, given.leaves, NODE * nodes_of(given.leaves))
+    out = chance.out(len(world.letter(given.leaves, given.index)))
+    return Case("letter_write", (given.size, index), [given.record, nodes, out, chance.variable()])
+
+
+def random_letter_check(chance, world, given):
+    top, letter = world.root(given.leaves), any_letter(chance, world, given.leaves, given.index)
+    return Case("letter_check", (given.size,), [chance.bytes_like(top), letter, *(chance.variable() for _ in range(3))])
+
+
+def random_large_check(chance, world, given):
+    """A letter of a log that nobody has built, of up to 2^32 leaves, and the root that its items decide on."""
+    leaves = min(chance.getrandbits(chance.randrange(1, 34)) + 1, MOST_LEAVES)
+    index = chance.randrange(leaves)
+    items = [chance.randbytes(NODE) for _ in shape.items_of(leaves, index)]
+    letter = letters.letter_bytes(nodes_of(leaves), index, chance.randbytes(chance.randrange(40)), items)
+    top = letters.worked_root(leaves, letter, digest)
+    shown = chance.often(letter, with_field(chance, letter), with_items(chance, letter), chance.damage(letter))
+    return Case("letter_check", (nodes_of(leaves),), [chance.bytes_like(top), shown, *(chance.variable() for _ in range(3))])
+
+
+def random_find(chance, world, given):
+    nodes = any_nodes(chance, world, given.leaves, NODE * nodes_of(given.leaves))
+    letter = any_letter(chance, world, given.leaves, given.index)
+    return Case("find", (given.size,), [nodes, given.record, letter, chance.out(PAIR), chance.out(PAIR), chance.randbytes(4)])
+
+
+def random_store_leaf(chance, world, given):
+    return Case("store_leaf", (), [given.record, chance.out(37 + len(given.record)), chance.variable()])
+
+
+def random_store_inner(chance, world, given):
+    return Case("store_inner", (), [chance.bytes_like(digest(given.record)), chance.out(33), chance.variable()])
+
+
+def random_read_node(chance, world, given):
+    data = chance.often(stored.stored_leaf(given.record[:LONGEST_RECORD]), stored.stored_inner(digest(given.record)))
+    return Case("read_node", (), [chance.bytes_like(data), chance.randbytes(4), chance.out(NODE), chance.variable(), chance.variable()])
+
+
+# Each kind of random case, and how often it is taken.
+RANDOM = {
+    random_digest: 1, random_number: 2, random_append: 3, random_root: 2, random_letter_write: 3, random_letter_check: 3,
+    random_large_check: 1, random_find: 4, random_store_leaf: 1, random_store_inner: 1, random_read_node: 1,
+}
+
+
+def random_case(chance, world):
+    """A case of any call."""
+    kind, = chance.choices(list(RANDOM), RANDOM.values())
+    return kind(chance, world, any_given(chance, world))

@@ -1,0 +1,124 @@
+"""BLAKE3: the compression, chunks, parents, the tree; plain and keyed."""
+import struct
+from collections import namedtuple
+
+STARTING_WORDS = (
+    0x6A09E667, 0xBB67AE85, 0x3C6EF372, 0xA54FF53A,
+    0x510E527F, 0x9B05688C, 0x1F83D9AB, 0x5BE0CD19,
+)
+PERMUTATION = (2, 6, 3, 10, 7, 0, 4, 13, 1, 11, 12, 5, 9, 14, 15, 8)
+COLUMNS = ((0, 4, 8, 12), (1, 5, 9, 13), (2, 6, 10, 14), (3, 7, 11, 15))
+DIAGONALS = ((0, 5, 10, 15), (1, 6, 11, 12), (2, 7, 8, 13), (3, 4, 9, 14))
+CHUNK_START, CHUNK_END, PARENT, ROOT, KEYED = 1, 2, 4, 8, 16
+CHUNK, BLOCK = 1024, 64
+LOW_WORD = 0xFFFFFFFF
+
+
+def words_of(data):
+    """Bytes as words of 32 bits, little-endian."""
+    return struct.unpack(f"<{len(data) // 4}I", data)
+
+
+def bytes_of(words):
+    """Words of 32 bits as bytes, little-endian."""
+    return struct.pack(f"<{len(words)}I", *words)
+
+
+def turned_right(word, count):
+    """The word turned right by count bits."""
+    return (word >> count | word << (32 - count)) & LOW_WORD
+
+
+def mix(state, places, x, y):
+    """Mix the four words of the state at the places a, b, c, d with the message words x and y."""
+    a, b, c, d = places
+    for word, turn_d, turn_b in ((x, 16, 12), (y, 8, 7)):
+        state[a] = (state[a] + state[b] + word) & LOW_WORD
+        state[d] = turned_right(state[d] ^ state[a], turn_d)
+        state[c] = (state[c] + state[d]) & LOW_WORD
+        state[b] = turned_right(state[b] ^ state[c], turn_b)
+
+
+def one_round(state, message):
+    """Mix the columns, then the diagonals, taking the message words in pairs in order."""
+    for i, places in enumerate(COLUMNS + DIAGONALS):
+        mix(state, places, message[2 * i], message[2 * i + 1])
+
+
+def permuted(message):
+    """New word i is old word PERMUTATION[i]."""
+    return [message[i] for i in PERMUTATION]
+
+
+def compress(chaining, block, counter, length, flags):
+    """One compression of a block of 64 bytes: the eight words of its result."""
+    state = [*chaining, *STARTING_WORDS[:4], counter & LOW_WORD, counter >> 32, length, flags]
+    message = words_of(block)
+    for number in range(7):
+        one_round(state, message)
+        if number < 6:
+            message = permuted(message)
+    return [state[i] ^ state[i + 8] for i in range(8)]
+
+
+# A mode: the words that chaining begins with, and a flag that every compression has.
+Mode = namedtuple("Mode", "starting flag")
+PLAIN = Mode(STARTING_WORDS, 0)
+
+
+def keyed(key):
+    """The mode of the keyed hash, for a key of 32 bytes."""
+    return Mode(words_of(key), KEYED)
+
+
+def blocks_of(chunk):
+    """A chunk in blocks of 64 bytes, the last of which may be short; an empty chunk is one empty block."""
+    return [chunk[at:at + BLOCK] for at in range(0, max(len(chunk), 1), BLOCK)]
+
+
+def chunk_words(mode, number, chunk, root):
+    """The chaining words of a chunk. root is ROOT where it is the whole tree, else 0."""
+    chaining = mode.starting
+    blocks = blocks_of(chunk)
+    for i, block in enumerate(blocks):
+        flags = mode.flag
+        if i == 0:
+            flags |= CHUNK_START
+        if i == len(blocks) - 1:
+            flags |= CHUNK_END | root
+        chaining = compress(chaining, block.ljust(BLOCK, b"\0"), number, len(block), flags)
+    return chaining
+
+
+def parent_words(mode, left, right, root):
+    """The chaining words of a parent, from those of its left and right sides."""
+    return compress(mode.starting, bytes_of(left + right), 0, BLOCK, mode.flag | PARENT | root)
+
+
+def left_chunks(count):
+    """How many of count > 1 chunks stand on the left side: the largest power of two below count."""
+    power = 1
+    while 2 * power < count:
+        power *= 2
+    return power
+
+
+def tree_words(mode, first, data, root):
+    """The chaining words of the tree over the data, whose first chunk has the number first."""
+    count = -(-len(data) // CHUNK)
+    if count <= 1:
+        return chunk_words(mode, first, data, root)
+    chunks = left_chunks(count)
+    left = tree_words(mode, first, data[:chunks * CHUNK], 0)
+    right = tree_words(mode, first + chunks, data[chunks * CHUNK:], 0)
+    return parent_words(mode, left, right, root)
+
+
+def digest(data, mode=PLAIN):
+    """The 32 bytes of the hash: plain, or in another mode."""
+    return bytes_of(tree_words(mode, 0, data, ROOT))
+
+
+def digest_of_pair(left, right):
+    """The digest of two digests, left then right."""
+    return digest(left + right)
