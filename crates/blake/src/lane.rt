@@ -1,6 +1,6 @@
 // Four whole chunks side by side.
 ghost use mathlib.Core.Path.{_≡_};
-ghost use Prim.Native.Nat.{_+_, _*_, _^_, _<_, _≤_};
+ghost use Prim.Native.Nat.{_+_, _^_, _<_, _≤_};
 ghost use lib.ListN.{length};
 ghost use Rattle.blake.specs.Blake.{chunked};
 ghost use Rattle.blake.specs.Lanes.{laneOf, laned, part, compressed4};

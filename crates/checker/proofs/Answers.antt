@@ -1,11 +1,11 @@
 -- What a check answers once the letter is taken apart: the refusal of its fields, 9, or done.
-use mathlib.Core.Path.{_≡_, refl, sym, ap, _∙_}
+use mathlib.Core.Path.{_≡_, sym, ap, _∙_}
 use mathlib.Core.List.{List, [], _∷_}
 use Prim.Native.Nat.{ℕ}
 use native.Mathlib.Omega.{arith}
 use lib.ListN.{length}
-use Rattle.order.specs.Order.{Refusal, _if_, _is_, _is-not_, verdict}
-use Rattle.order.proofs.Laws.{Passes, refuses, passes, early, late}
+use Rattle.order.specs.Order.{_if_, _is_, _is-not_, verdict}
+use Rattle.order.proofs.Laws.{refuses, passes, early, late}
 use Rattle.wire.specs.Runs.{differ}
 use Rattle.shape.specs.Sizes.{countAnswer}
 use Rattle.log.specs.Outcomes.{leaves}

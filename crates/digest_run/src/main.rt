@@ -1,7 +1,7 @@
 // Digests at the edges of blocks, chunks and trees, and of pairs of digests, to be compared with the second program's.
 use digest::Digest;
 use runs::given;
-use runs::lines::say;
+use runs::lines::end_line;
 use runs::lines::say_digest;
 use runs::lines::say_hex;
 use runs::lines::say_number;
@@ -34,7 +34,7 @@ const LENGTHS: [usize; 20] = [
 fn show_first(bytes: &[u8; 100000], n: usize) {
     say_number(b"", n as u64);
     say_digest(b" ", given::front(bytes, n));
-    say(b"\n");
+    end_line();
 }
 
 // A line for each length.
@@ -50,7 +50,7 @@ fn show_pair(label: &[u8], left: Digest, right: Digest) {
     let d = digest::digest_of_pair(left, right);
     let bytes = d.bytes;
     say_hex(label, bytes);
-    say(b"\n");
+    end_line();
 }
 
 // A line for each pair of the digests of no byte and of the byte 0.

@@ -7,45 +7,36 @@ use native.Mathlib.Decide.{decLe, decLt}
 use native.Mathlib.Omega.{arith}
 use lib.ListN.{length, length-drop, getD, take, drop}
 use lib.Seq.{length-take-le}
-use Rattle.wire.specs.Runs.{differ}
 use Rattle.wire.proofs.Differences.{differ-same}
 use Rattle.shape.specs.Sizes.{heightOf}
 use Rattle.shape.specs.Tree.{Turn, Each, root, inputs}
 use Rattle.shape.specs.Letter.{wayIn, way, fill}
 use Rattle.shape.specs.Positions.{top, behind, peaksIn, peaks, fold}
-use Rattle.shape.specs.Differ as difference
-use Rattle.shape.specs.Differ.{agree, decided}
+use Rattle.shape.specs.Difference.{agree, difference}
 use Rattle.shape.specs.Seen.{either, sides, seenIn, seen, brokenIn, broken}
-use Rattle.shape.proofs.Differs.{differ-same as first-same, differ-other as first-other}
+use Rattle.shape.proofs.Difference.{agree-cons}
 use Rattle.shape.proofs.Each.{each-take, each-drop, each-at}
 use Rattle.shape.proofs.Heights.{height-holds}
 use Rattle.shape.proofs.Letters.{fill-32}
-use Rattle.shape.proofs.Bind.{root-32}
+use Rattle.shape.proofs.Bind.{fronts, backs, root-32}
 use Rattle.shape.proofs.Ways.{way-low, way-left, way-right, way-past}
 use Rattle.shape.proofs.Peaks.{peaks-low, peaks-full}
 use Rattle.shape.proofs.Seen.{seen-low, seen-left, seen-right, topDiffers, broken-one, broken-low, broken-left, broken-right}
-use Rattle.finder.proofs.Differences.{same-left, same-right}
-
--- two lists that agree begin with one string, and agree behind it
-agree-cons : (x y : List ℕ) (xs ys : List (List ℕ)) → difference.differ (x ∷ xs) (y ∷ ys) ≡ agree → (x ≡ y) × (difference.differ xs ys ≡ agree)
-agree-cons x y xs ys e = elim (decided x y) [
-  | yes f ↦ (f, sym (first-same x y xs ys f) ∙ e)
-  | no f ↦ absurd (let g : difference.pair x y ≡ agree = sym (first-other x y xs ys f) ∙ e in let z : _≡_ {A = ℕ} 0 1 = cc in omega arith)
-]
 
 module _ (digest : List ℕ → List ℕ) (digest-32 : (x : List ℕ) → length (digest x) ≡ 32)
     (node : ℕ → List ℕ) (node-32 : (p : ℕ) → length (node p) ≡ 32) (leaf : List ℕ) (leaf-32 : length leaf ≡ 32) where
-  -- the items of a way, each of 32 bytes
-  abbrev Fits : List Turn → List (List ℕ) → Type 0
-  Fits w xs = (length xs ≡ length w) × Each 32 xs
+  -- items that fill a way, each of 32 bytes
+  abbrev Filling : List Turn → List (List ℕ) → Type 0
+  Filling w xs = (length xs ≡ length w) × Each 32 xs
 
   -- the nodes on the way agree with a tree, and have its root
   abbrev AgreeIn : ℕ → ℕ → ℕ → ℕ → List (List ℕ) → Type 0
   AgreeIn h n i s xs = let t = fill (wayIn h n i) leaf xs in
-      (difference.differ (seenIn digest node h n i s) (inputs digest t) ≡ agree) × (fold digest node (peaksIn (suc h) n s) ≡ root digest t)
+      (difference (seenIn digest node h n i s) (inputs digest t) ≡ agree) × (fold digest node (peaksIn (suc h) n s) ≡ root digest t)
 
   abbrev Sound : ℕ → Type 0
-  Sound h = (n i s : ℕ) (xs : List (List ℕ)) → i < n → n ≤ 2 ^ h → Fits (wayIn h n i) xs → AgreeIn h n i s xs → brokenIn digest node (suc h) n i s ≡ 0
+  Sound h = (n i s : ℕ) (xs : List (List ℕ)) → i < n → n ≤ 2 ^ h → Filling (wayIn h n i) xs → AgreeIn h n i s xs
+      → brokenIn digest node (suc h) n i s ≡ 0
 
   -- a fork that agrees, of two sides with the roots l and r: the node on top is the digest of its two children, and each side agrees
   module _ (h n i s : ℕ) (xs : List (List ℕ)) (l r : List ℕ) (m : length l ≡ 32) (logs letters : List (List ℕ)) (under : ℕ)
@@ -53,29 +44,29 @@ module _ (digest : List ℕ → List ℕ) (digest-32 : (x : List ℕ) → length
       (eb : brokenIn digest node (suc (suc h)) n i s ≡ either (topDiffers digest node h n s) under)
       (ei : inputs digest (fill (wayIn (suc h) n i) leaf xs) ≡ (l ++ r) ∷ letters)
       (er : root digest (fill (wayIn (suc h) n i) leaf xs) ≡ digest (l ++ r))
-      (below : difference.differ logs letters ≡ agree → node (top h s) ≡ l → fold digest node (peaksIn (suc h) (n - 2 ^ h) (behind h s)) ≡ r
+      (below : difference logs letters ≡ agree → node (top h s) ≡ l → fold digest node (peaksIn (suc h) (n - 2 ^ h) (behind h s)) ≡ r
       → under ≡ 0)
       (a : AgreeIn (suc h) n i s xs) where
     fork-sound : brokenIn digest node (suc (suc h)) n i s ≡ 0
     fork-sound =
-        let c = agree-cons (sides digest node h n s) (l ++ r) logs letters (sym (ap₂ difference.differ es ei) ∙ a .0) in
+        let c = agree-cons (sides digest node h n s) (l ++ r) logs letters (sym (ap₂ difference es ei) ∙ a .0) in
         let d = node-32 (top h s) ∙ sym m in
         eb
         ∙ ap₂ either (differ-same _ _ (a .1 ∙ er ∙ ap digest (sym (c .0))))
-        (below (c .1) (same-left (node (top h s)) _ l r d (c .0)) (same-right (node (top h s)) _ l r d (c .0)))
+        (below (c .1) (fronts (node (top h s)) _ l r d (c .0)) (backs (node (top h s)) _ l r d (c .0)))
 
-  fill-root : (w : List Turn) (xs : List (List ℕ)) → Fits w xs → length (root digest (fill w leaf xs)) ≡ 32
+  fill-root : (w : List Turn) (xs : List (List ℕ)) → Filling w xs → length (root digest (fill w leaf xs)) ≡ 32
   fill-root w xs f = root-32 digest digest-32 (fill w leaf xs) (fill-32 w leaf xs (f .0) (f .1) leaf-32)
 
   -- the items of one turn less
-  but-last : (w : List Turn) (xs : List (List ℕ)) → length xs ≡ suc (length w) → Each 32 xs → Fits w (take (length w) xs)
+  but-last : (w : List Turn) (xs : List (List ℕ)) → length xs ≡ suc (length w) → Each 32 xs → Filling w (take (length w) xs)
   but-last w xs n p = (length-take-le (length w) xs (omega arith), each-take 32 (length w) xs p)
 
-  but-first : (w : List Turn) (xs : List (List ℕ)) → length xs ≡ suc (length w) → Each 32 xs → Fits w (drop 1 xs)
+  but-first : (w : List Turn) (xs : List (List ℕ)) → length xs ≡ suc (length w) → Each 32 xs → Filling w (drop 1 xs)
   but-first w xs n p = (length-drop 1 xs ∙ omega arith, each-drop 32 1 xs p)
 
   module _ (h : ℕ) (sound : Sound h) (n i s : ℕ) (xs : List (List ℕ)) (p : i < n) (q : n ≤ 2 ^ suc h) (l : 2 ^ h < n)
-      (f : Fits (wayIn (suc h) n i) xs) (a : AgreeIn (suc h) n i s xs) where
+      (f : Filling (wayIn (suc h) n i) xs) (a : AgreeIn (suc h) n i s xs) where
     sound-left : i < 2 ^ h → brokenIn digest node (suc (suc h)) n i s ≡ 0
     sound-left c =
         let w = wayIn h (2 ^ h) i in
@@ -130,7 +121,7 @@ module _ (digest : List ℕ → List ℕ) (digest-32 : (x : List ℕ) → length
 
   -- no height: the way to leaf i of n
   pub agreed : (n i : ℕ) (xs : List (List ℕ)) → i < n → length xs ≡ length (way n i) → Each 32 xs
-      → difference.differ (seen digest node n i) (inputs digest (fill (way n i) leaf xs)) ≡ agree
+      → difference (seen digest node n i) (inputs digest (fill (way n i) leaf xs)) ≡ agree
       → fold digest node (peaks n) ≡ root digest (fill (way n i) leaf xs) → broken digest node n i ≡ 0
   unfolding seen broken way peaks
   agreed n i xs p m e d r = sound-in (heightOf n) n i 0 xs p (height-holds n) (m, e) (d, r)

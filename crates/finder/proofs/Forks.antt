@@ -12,7 +12,7 @@ use Rattle.digest.specs.Digest.{digestOf}
 use Rattle.shape.specs.Tree.{left, right, root, inputs}
 use Rattle.shape.specs.Letter.{wayIn}
 use Rattle.shape.specs.Positions.{top, behind, peaksIn, fold}
-use Rattle.shape.specs.Differ as difference
+use Rattle.shape.specs.Difference.{difference}
 use Rattle.shape.specs.Seen.{sides, seenIn}
 use Rattle.shape.proofs.Seen.{top-full, top-fold}
 use Rattle.log.specs.Nodes.{nodeIn}
@@ -49,7 +49,7 @@ module _ (bs : List ℕ) (g n s : ℕ) (p : 2 ^ g < n) (q : n ≤ 2 ^ suc g) whe
       (es : seenIn digestOf (nodeIn bs) (suc g) n i s ≡ sides digestOf (nodeIn bs) g n s ∷ logs)
       (up : (w .used ≡ length (wayIn (suc g) n i)) × (w .letter .bytes ≡ root digestOf (lettered (suc g) n i leaf from items)))
       (ei : inputs digestOf (lettered (suc g) n i leaf from items) ≡ bytesOf theirs ∷ letters)
-      (lf : told (low .difference) ≡ difference.differ logs letters)
+      (lf : told (low .difference) ≡ difference logs letters)
       (j : Joined low (crown bs (2 ^ g) (n - 2 ^ g) mid (digestOf (bytesOf ours))) ours theirs w) where
     crowned : crown bs (2 ^ g) (n - 2 ^ g) mid (digestOf (bytesOf ours)) ≡ fold digestOf (nodeIn bs) (peaksIn (suc (suc g)) n s)
     crowned = ap (λ (x : List ℕ). crown bs (2 ^ g) (n - 2 ^ g) mid (digestOf x)) eo ∙ crown-is
@@ -64,5 +64,5 @@ module _ (bs : List ℕ) (g n s : ℕ) (p : 2 ^ g < n) (q : n ≤ 2 ^ suc g) whe
               j .first
               ∙ ap (above (differ (bytesOf ours) (bytesOf theirs)) (bytesOf ours) (bytesOf theirs)) lf
               ∙ above-is (bytesOf ours) (bytesOf theirs) logs letters
-              ∙ ap₂ difference.differ (ap {B = List (List ℕ)} (λ x. x ∷ logs) eo ∙ sym es) (sym ei);
+              ∙ ap₂ difference (ap {B = List (List ℕ)} (λ x. x ∷ logs) eo ∙ sym es) (sym ei);
         }

@@ -6,8 +6,7 @@ use native.Mathlib.Omega.{arith}
 use lib.ListN.{length}
 use Rattle.wire.specs.Runs.{part, splice, written, differ}
 use Rattle.wire.proofs.Splices.{written-fits, written-next}
-use Rattle.shape.specs.Differ as difference
-use Rattle.shape.specs.Differ.{agree}
+use Rattle.shape.specs.Difference.{Diff, agree, difference}
 use Rattle.finder.specs.declared.difference.Input.{Input}
 use Rattle.finder.specs.declared.difference.Difference.{Difference}
 use Rattle.finder.specs.Outcome.{inputsFrom, inBoth, givenDifference}
@@ -18,12 +17,12 @@ use Rattle.finder.proofs.Differences.{above-is}
 pub record Compared (ours theirs : List ℕ) (m k : ℕ) (first : Difference) : Type 0 where
   pub within : k ≤ m
   pub small : m ≤ 2 ^ 58
-  pub first-is : told first ≡ difference.differ (inputsFrom (64 * k) (m - k) ours) (inputsFrom (64 * k) (m - k) theirs)
+  pub first-is : told first ≡ difference (inputsFrom (64 * k) (m - k) ours) (inputsFrom (64 * k) (m - k) theirs)
 
 module _ (ours theirs : List ℕ) where
   -- before any
   pub compared-none : (m : ℕ) (d : Difference) → m ≤ 2 ^ 58 → told d ≡ agree → Compared ours theirs m m d
-  unfolding inputsFrom difference.differ
+  unfolding inputsFrom difference
   compared-none m d s e =
       let z : m - m ≡ 0 = omega arith in
       record { within = omega arith; small = s; first-is = e ∙ sym (rw (z, inputsFrom)) }
@@ -49,9 +48,9 @@ module _ (ours theirs : List ℕ) where
         small = c .small;
         first-is =
             en
-            ∙ ap₂ (λ (x : ℕ) (y : difference.Diff). above x (bytesOf a) (bytesOf b) y) ed (c .first-is)
+            ∙ ap₂ (λ (x : ℕ) (y : Diff). above x (bytesOf a) (bytesOf b) y) ed (c .first-is)
             ∙ above-is (bytesOf a) (bytesOf b) xs ys
-            ∙ ap₂ difference.differ
+            ∙ ap₂ difference
             (ap {B = List (List ℕ)} (λ x. x ∷ xs) ea ∙ sym (from-before m k ours p (c .within)))
             (ap {B = List (List ℕ)} (λ x. x ∷ ys) eb ∙ sym (from-before m k theirs p (c .within)));
       }
@@ -62,7 +61,7 @@ module _ (ours theirs : List ℕ) where
   compared-all {m} {k} c z e =
       let o : 64 * k ≡ 0 = omega arith in
       let u : m - k ≡ inBoth ours theirs = omega arith in
-      c .first-is ∙ ap₂ (λ (at j : ℕ). difference.differ (inputsFrom at j ours) (inputsFrom at j theirs)) o u
+      c .first-is ∙ ap₂ (λ (at j : ℕ). difference (inputsFrom at j ours) (inputsFrom at j theirs)) o u
 
 -- two digests written in a row
 pub put-two : (d l r mid last : List ℕ) → length l ≡ 32 → length r ≡ 32 → 64 ≤ length d → mid ≡ written 0 l d → last ≡ written 32 r mid

@@ -1,21 +1,21 @@
--- The finder's order in its parts: the outcome goes through one after the other, and no refusal applies where none of any part does.
-use mathlib.Core.Path.{_≡_, ap, _∙_}
+-- The finder's order in its parts: the outcome goes through one after the other, no refusal applies where none of any part does, and none where
+-- "same" is said.
+use mathlib.Core.Path.{_≡_, refl, sym, ap, _∙_}
 use mathlib.Core.List.{List, [], _∷_, _++_}
 use Prim.Native.Nat.{ℕ}
+use native.Mathlib.Decide.{ℕ-discrete}
 use lib.Dec.{T}
 use Rattle.order.specs.Order.{Refusal, _if_, _is-not_, verdict}
-use Rattle.order.proofs.Laws.{Passes, numbered, verdict-append}
+use Rattle.order.proofs.Laws.{Passes, numbered, accepted, refusal, pass-parts, pass-whole, verdict-append}
 use Rattle.wire.specs.Runs.{differ}
+use Rattle.shape.specs.Difference.{agree}
 use Rattle.log.specs.Outcomes.{leaves, rootOrder}
 use Rattle.letter.specs.Bytes.{indexIn, recordIn}
 use Rattle.letter.specs.Items.{workedRoot}
 use Rattle.letter.specs.Order.{fieldsOrder, from7}
-use Rattle.finder.specs.Outcome.{FindOutcome, findRefused, findDone, roomOrder, settled}
+use Rattle.finder.specs.Outcome.{same, FindOutcome, findRefused, findDone, roomOrder, settled}
 use Rattle.finder.specs.Outcome.{ownRoot, firstDifference, ownOrder, findOrder, findOutcome}
-
-pass-both : (xs ys : List Refusal) → Passes (xs ++ ys) → Passes xs × Passes ys
-pass-both [] ys p = (tt, p)
-pass-both (m if t ∷ later) ys p = let b = pass-both later ys (p .1) in ((p .0, b .0), b .1)
+use Rattle.finder.proofs.Settled.{done-zero, same-done, same-refused}
 
 module _ (digest : List ℕ → List ℕ) (size : ℕ) (bs rec letter first second : List ℕ) where
   abbrev n : ℕ
@@ -54,9 +54,37 @@ module _ (digest : List ℕ → List ℕ) (size : ℕ) (bs rec letter first seco
       ∙ verdict-append R (rootOrder size bs) checking (verdict R own last)
       ∙ ap (verdict R (rootOrder size bs)) (verdict-append R (fieldsOrder size n letter) rootDiffers (verdict R own last))
 
+  -- no refusal applies where none of any part does
+  pub find-pass : Passes (rootOrder size bs) → Passes checking → Passes own → Passes (roomOrder first second)
+      → Passes (findOrder digest size bs rec letter first second)
+  unfolding findOrder
+  find-pass p q r s =
+      pass-whole (rootOrder size bs ++ checking ++ own) (roomOrder first second)
+      (pass-whole (rootOrder size bs ++ checking) own (pass-whole (rootOrder size bs) checking p q) r) s
+
   -- what passes the whole passes the checking order
   pub find-checked : Passes (findOrder digest size bs rec letter first second) → Passes checking
   unfolding findOrder
   find-checked p =
-      pass-both (rootOrder size bs) checking
-      (pass-both (rootOrder size bs ++ checking) own (pass-both (rootOrder size bs ++ checking ++ own) (roomOrder first second) p .0) .0) .1
+      pass-parts (rootOrder size bs) checking
+      (pass-parts (rootOrder size bs ++ checking) own (pass-parts (rootOrder size bs ++ checking ++ own) (roomOrder first second) p .0) .0) .1
+
+  -- where "same" is said, no refusal applies, and nothing differs
+  pub find-same : findOutcome digest size bs rec letter first second .answer ≡ same
+      → Passes (findOrder digest size bs rec letter first second) × (firstDifference digest n bs letter ≡ agree) × (differ rec (recordIn letter) ≡ 0)
+  unfolding findOutcome
+  find-same e =
+      let number : FindOutcome → ℕ = λ o. o .number in
+      let outcome = findOutcome digest size bs rec letter first second in
+      let order = findOrder digest size bs rec letter first second in
+      let done = findDone (firstDifference digest n bs letter) (differ rec (recordIn letter)) first second in
+      let z : number done ≡ 0 = done-zero (firstDifference digest n bs letter) _ first second in
+      elim (ℕ-discrete (number outcome) 0) [
+        | yes h ↦
+            let o = accepted number (findRefused first second) order done (λ m. refl) z {r = outcome} refl find-numbered h in
+            let d = same-done (firstDifference digest n bs letter) _ first second (sym (ap (λ (x : FindOutcome). x .answer) (o .1)) ∙ e) in
+            (o .0, d .0, d .1)
+        | no h ↦
+            let r = refusal number (findRefused first second) order done (λ m. refl) z {r = outcome} refl h in
+            absurd (same-refused (sym (ap (λ (x : FindOutcome). x .answer) r) ∙ e))
+      ]

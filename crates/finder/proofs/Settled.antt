@@ -1,14 +1,15 @@
--- The finder's answer: a refusal; and once nothing refuses, by a difference, and with none by the records.
+-- The finder's answer: a refusal; and once nothing refuses, by a difference, and with none by the records. What an answer tells of these.
 use mathlib.Core.Path.{_≡_, refl, ap}
 use mathlib.Core.Logic.{_≢_}
 use mathlib.Core.List.{List}
 use Prim.Native.Nat.{ℕ, zero, suc}
+use native.Mathlib.Omega.{arith}
 use Rattle.wire.specs.Runs.{splice}
-use Rattle.shape.specs.Differ.{agree}
+use Rattle.shape.specs.Difference.{Diff, agree, unequal}
 use Rattle.finder.specs.declared.Finding.the-variants.{Nothing}
 use Rattle.finder.specs.declared.Found.{Found}
 use Rattle.finder.specs.declared.difference.Difference.{Difference}
-use Rattle.finder.specs.Outcome.{same, records, pair, found, findRefused, findDone}
+use Rattle.finder.specs.Outcome.{none, same, records, pair, found, findRefused, findDone}
 use Rattle.finder.specs.Steps.{bytesOf, above, told}
 
 pub refused-as : (one two : List ℕ) (k : ℕ) {r : Found} → r ≡ record { number = k; finding = Nothing } → found r one two ≡ findRefused one two k
@@ -34,3 +35,19 @@ done-records d (suc m) first second z h = rw z
 pub done-same : (d : Difference) (m : ℕ) (first second : List ℕ) → d .apart ≡ 0 → m ≡ 0
     → record { number = 0; answer = same; first = first; second = second } ≡ findDone (told d) m first second
 done-same d m first second z h = rw (z, h)
+
+-- ---- what an answer tells
+
+-- done has the number 0, whatever was found
+pub done-zero : (d : Diff) (m : ℕ) (first second : List ℕ) → findDone d m first second .number ≡ 0
+done-zero agree m first second = refl
+done-zero (unequal a b) m first second = refl
+
+-- "same" is said where nothing differs, and no refusal says it
+pub same-done : (d : Diff) (m : ℕ) (first second : List ℕ) → findDone d m first second .answer ≡ same → (d ≡ agree) × (m ≡ 0)
+same-done agree zero first second e = (refl, refl)
+same-done agree (suc m) first second e = absurd (let z : _≡_ {A = ℕ} 0 1 = cc in omega arith)
+same-done (unequal a b) m first second e = absurd (let z : _≡_ {A = ℕ} 0 1 = cc in omega arith)
+
+pub same-refused : none ≡ same → ⊥
+same-refused e = let z : _≡_ {A = ℕ} 0 1 = cc in omega arith

@@ -11,8 +11,7 @@ use Rattle.digest.specs.Digest.{digestOf}
 use Rattle.shape.specs.Tree.{left, right, past}
 use Rattle.shape.specs.Letter.{wayIn}
 use Rattle.shape.specs.Positions.{top, behind, peaksIn, fold}
-use Rattle.shape.specs.Differ as difference
-use Rattle.shape.specs.Differ.{agree}
+use Rattle.shape.specs.Difference.{agree, difference}
 use Rattle.shape.specs.Seen.{seenIn}
 use Rattle.shape.proofs.Powers.{power-small}
 use Rattle.shape.proofs.Ways.{way-low, way-left, way-right, way-past, way-most}
@@ -207,7 +206,7 @@ module _ (bs items leaf : List ℕ) (n i s from : ℕ) (w : Trail) where
   -- at no height there is one leaf
   pub turned-none : (h : ℕ) → h ≡ 0 → Walkable h n i s from → w .used ≡ 0 → w .log .bytes ≡ nodeIn bs s → w .letter .bytes ≡ leaf
       → told (w .difference) ≡ agree → Walked h n i s leaf from bs items w
-  unfolding wayIn seenIn difference.differ
+  unfolding wayIn seenIn difference
   turned-none zero z f u l t d =
       let e : top 0 s ≡ s = omega arith in
       record {

@@ -12,8 +12,7 @@ use Rattle.shape.specs.Sizes.{heightOf}
 use Rattle.shape.specs.Tree.{root, inputs}
 use Rattle.shape.specs.Letter.{way}
 use Rattle.shape.specs.Positions.{peaksIn, peaks, fold}
-use Rattle.shape.specs.Differ as difference
-use Rattle.shape.specs.Differ.{agree}
+use Rattle.shape.specs.Difference.{agree, difference}
 use Rattle.shape.specs.Seen.{seenIn, seen, broken}
 use Rattle.shape.proofs.Heights.{height-holds, height-least}
 use Rattle.log.specs.Nodes.{nodeIn}
@@ -38,7 +37,7 @@ pub record Whole (bs : List ℕ) (n i : ℕ) (theirs items : List ℕ) (w : Trai
   pub log : w .log .bytes ≡ ownRoot digestOf n bs
   pub letter : w .letter .bytes ≡ root digestOf (treeOf digestOf n i theirs (digestsFrom 0 (itemCount n i) items))
   pub first : told (w .difference)
-      ≡ difference.differ (seen digestOf (nodeIn bs) n i) (inputs digestOf (treeOf digestOf n i theirs (digestsFrom 0 (itemCount n i) items)))
+      ≡ difference (seen digestOf (nodeIn bs) n i) (inputs digestOf (treeOf digestOf n i theirs (digestsFrom 0 (itemCount n i) items)))
 
 pub whole : (bs : List ℕ) (n i : ℕ) (theirs items : List ℕ) {h : ℕ} {leaf : List ℕ} {w : Trail} → h ≡ heightOf n → leaf ≡ digestOf theirs
     → Walked h n i 0 leaf 0 bs items w → Whole bs n i theirs items w
@@ -49,7 +48,7 @@ whole bs n i theirs items {h} {leaf} e l o =
       letter = o .letter ∙ ap₂ (λ (k : ℕ) (x : List ℕ). root digestOf (lettered k n i x 0 items)) e l;
       first =
           o .first
-          ∙ ap₂ (λ (k : ℕ) (x : List ℕ). difference.differ (seenIn digestOf (nodeIn bs) k n i 0) (inputs digestOf (lettered k n i x 0 items))) e l;
+          ∙ ap₂ (λ (k : ℕ) (x : List ℕ). difference (seenIn digestOf (nodeIn bs) k n i 0) (inputs digestOf (lettered k n i x 0 items))) e l;
     }
 
 -- where two records are the same, the digest of one is that of the other

@@ -8,8 +8,7 @@ use Rattle.order.specs.Order.{Refusal, _if_, _is-not_, _above_, _under_, verdic
 use Rattle.wire.specs.Runs.{part, splice, differ}
 use Rattle.shape.specs.Positions.{peaks, fold}
 use Rattle.shape.specs.Tree.{inputs}
-use Rattle.shape.specs.Differ as difference
-use Rattle.shape.specs.Differ.{Diff, agree}
+use Rattle.shape.specs.Difference.{Diff, agree, unequal, difference}
 use Rattle.shape.specs.Seen.{seen, broken}
 use Rattle.log.specs.Nodes.{nodeIn}
 use Rattle.log.specs.Outcomes.{leaves, rootOrder}
@@ -55,7 +54,7 @@ byRecords (suc k) = records
 -- the records. The buffers change only for "pair"
 abbrev pub findDone : Diff → ℕ → List ℕ → List ℕ → FindOutcome
 findDone agree apart first second = record { number = 0; answer = byRecords apart; first = first; second = second }
-findDone (difference.pair ours theirs) apart first second =
+findDone (unequal ours theirs) apart first second =
     record { number = 0; answer = pair; first = splice 0 ours first; second = splice 0 theirs second }
 
 -- either buffer under 64
@@ -64,8 +63,8 @@ roomOrder first second = 6 if length first under 64 ∷ 6 if length second under
 
 -- where no other refusal is left
 abbrev pub settled : Diff → ℕ → List ℕ → List ℕ → FindOutcome
-settled difference apart first second =
-    verdict (findRefused first second) (roomOrder first second) (findDone difference apart first second)
+settled diff apart first second =
+    verdict (findRefused first second) (roomOrder first second) (findDone diff apart first second)
 
 module _ (digest : List ℕ → List ℕ) where
   -- the root of its own nodes
@@ -75,7 +74,7 @@ module _ (digest : List ℕ → List ℕ) where
   -- the first difference, from the root down, of each 64-byte input of the log and that of the letter
   abbrev pub firstDifference : ℕ → List ℕ → List ℕ → Diff
   firstDifference n bs letter =
-      difference.differ (seen digest (nodeIn bs) n (indexIn letter)) (inputs digest (letterTree digest n letter))
+      difference (seen digest (nodeIn bs) n (indexIn letter)) (inputs digest (letterTree digest n letter))
 
   -- the log's own record above 16,384; its digest isn't the leaf at its place; a node on the path, within its peak, isn't the digest of its two
   -- children
@@ -109,7 +108,7 @@ inBoth ours theirs = elim (leb (length ours) (length theirs)) [ true ↦ length 
 unfoldable pub givenDifference : List ℕ → List ℕ → Diff
 givenDifference ours theirs =
     let k = inBoth ours theirs in
-    difference.differ (inputsFrom 0 k ours) (inputsFrom 0 k theirs)
+    difference (inputsFrom 0 k ours) (inputsFrom 0 k theirs)
 
 -- two given lists of inputs and two given records compared as the finder does it, 6 tested whatever the outcome
 unfoldable pub compareOutcome : List ℕ → List ℕ → List ℕ → List ℕ → List ℕ → List ℕ → FindOutcome

@@ -12,8 +12,7 @@ use Rattle.shape.specs.Tree.{Tree, root, inputs}
 use Rattle.shape.specs.Letter.{wayIn, fill}
 use Rattle.shape.specs.Positions.{peaksIn, fold}
 use Rattle.shape.specs.Seen.{seenIn, seen}
-use Rattle.shape.specs.Differ as difference
-use Rattle.shape.specs.Differ.{Diff, agree}
+use Rattle.shape.specs.Difference.{Diff, agree, unequal, difference}
 use Rattle.log.specs.Nodes.{nodeIn}
 use Rattle.letter.specs.Bytes.{digestsFrom}
 use Rattle.letter.specs.Items.{itemCount, treeOf}
@@ -29,7 +28,7 @@ bytesOf x = x .left .bytes ++ x .right .bytes
 -- the first difference with two inputs more above: these where they are apart, else the one below
 abbrev pub above : ℕ → List ℕ → List ℕ → Diff → Diff
 above zero ours theirs below = below
-above (suc k) ours theirs below = difference.pair ours theirs
+above (suc k) ours theirs below = unequal ours theirs
 
 -- a difference by the answer
 abbrev pub told : Difference → Diff
@@ -80,12 +79,16 @@ pub record Walked (h n i s : ℕ) (leaf : List ℕ) (from : ℕ) (bs items : Lis
   pub log : w .log .bytes ≡ fold digestOf (nodeIn bs) (peaksIn (suc h) n s)
   pub letter : w .letter .bytes ≡ root digestOf (lettered h n i leaf from items)
   pub first : told (w .difference)
-      ≡ difference.differ (seenIn digestOf (nodeIn bs) h n i s) (inputs digestOf (lettered h n i leaf from items))
+      ≡ difference (seenIn digestOf (nodeIn bs) h n i s) (inputs digestOf (lettered h n i leaf from items))
 
--- a letter of the right form compared: 9, then 3 and 13 for the log's own record, 14, and 6; `theirs` is its record
-unfoldable pub againstOutcome : List ℕ → ℕ → ℕ → List ℕ → List ℕ → List ℕ → List ℕ → List ℕ → FindOutcome
-againstOutcome bs n i rec theirs items one two =
-    let tree = treeOf digestOf n i theirs (digestsFrom 0 (itemCount n i) items) in
+-- the tree and the record of a letter compared: 9, then 3 and 13 for the log's own record, 14, and 6
+abbrev pub comparing : List ℕ → ℕ → ℕ → List ℕ → Tree → List ℕ → List ℕ → List ℕ → FindOutcome
+comparing bs n i rec tree theirs one two =
     verdict (findRefused one two) (9 if differ (ownRoot digestOf n bs) (root digestOf tree) is-not 0 ∷ [])
     (verdict (findRefused one two) (ownOrder digestOf n bs rec i)
-    (settled (difference.differ (seen digestOf (nodeIn bs) n i) (inputs digestOf tree)) (differ rec theirs) one two))
+    (settled (difference (seen digestOf (nodeIn bs) n i) (inputs digestOf tree)) (differ rec theirs) one two))
+
+-- a letter of the right form compared, by its record and its items
+unfoldable pub againstOutcome : List ℕ → ℕ → ℕ → List ℕ → List ℕ → List ℕ → List ℕ → List ℕ → FindOutcome
+againstOutcome bs n i rec theirs items one two =
+    comparing bs n i rec (treeOf digestOf n i theirs (digestsFrom 0 (itemCount n i) items)) theirs one two

@@ -2,7 +2,7 @@
 ghost use mathlib.Core.Path.{_≡_};
 ghost use Prim.Native.Nat.{_*_, _^_, _≤_};
 ghost use Rattle.wire.specs.Runs.{part, differ};
-ghost use Rattle.shape.specs.Differ.{agree};
+ghost use Rattle.shape.specs.Difference.{agree};
 ghost use Rattle.finder.specs.Outcome.{inBoth, givenDifference};
 ghost use Rattle.finder.specs.Steps.{bytesOf, told, above};
 use digest::Digest;

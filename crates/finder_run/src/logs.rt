@@ -1,20 +1,13 @@
-// The logs that are compared with letters, the two buffers that are lent, and how an answer is printed.
+// The logs that are compared with letters, the two buffers that are lent, and what the finder makes of a letter, printed.
 ghost use Prim.Native.Nat.{_≤_};
 use finder::Finding;
 use finder::Found;
 use runs::given::fill;
 use runs::given::front;
+use runs::given::length_of;
 use runs::given::record_of;
+use runs::lines::end_line;
 use runs::lines::say_numbers;
-
-// The lengths of the records, over and over.
-const LENGTHS: [usize; 5] = [0, 1, 31, 200, 16384];
-
-// The length of record k.
-pub(crate) fn length_of(k: usize) -> usize {
-    let lengths = LENGTHS;
-    lengths[k % 5]
-}
 
 // Record k appended to a log of at most nine; the new size.
 pub(crate) fn grow(size: u64, k: usize, nodes: &mut [u8; 512]) -> u64 {
@@ -34,6 +27,12 @@ pub(crate) fn letter_of(size: u64, index: usize, nodes: &[u8; 512], out: &mut [u
         out,
     );
     w.length
+}
+
+// One bit of a byte changed, where there is such a byte.
+pub(crate) fn flip(bytes: &mut [u8], at: usize) {
+    let b = wire::read_byte(bytes, at);
+    wire::write_byte(bytes, at, b ^ 1);
 }
 
 // A buffer of 80 bytes before a call: the first 64 are for an input.
@@ -70,13 +69,33 @@ pub(crate) fn show_found(f: Found) {
     say_numbers(b":", &numbers);
 }
 
-// 1 for each of the two buffers that has changed since they were made, else 0.
-pub(crate) fn show_changes(first: &[u8; 80], second: &[u8; 80]) {
-    let one = buffer_of(5);
-    let two = buffer_of(6);
-    let numbers = [
-        wire::differ(first, &one) as u64,
-        wire::differ(second, &two) as u64,
-    ];
-    say_numbers(b" differ", &numbers);
+// 1 where buffer i has changed since it was made, else 0.
+fn changed(bytes: &[u8; 80], i: usize) -> u64 {
+    let before = buffer_of(i);
+    wire::differ(bytes, &before) as u64
+}
+
+// Whether each of the two buffers has changed.
+fn show_changes(first: &[u8; 80], second: &[u8; 80]) {
+    let changes = [changed(first, 5), changed(second, 6)];
+    say_numbers(b" differ", &changes);
+}
+
+// What the finder makes of a letter, with parts of two buffers.
+pub(crate) fn show_find(size: u64, nodes: &[u8], rec: &[u8], letter: &[u8], one: u64, two: u64) {
+    let mut first = buffer_of(5);
+    let mut second = buffer_of(6);
+    let room = room_of(one);
+    let other_room = room_of(two);
+    let f = finder::find(
+        size,
+        nodes,
+        rec,
+        letter,
+        &mut first[..room],
+        &mut second[..other_room],
+    );
+    show_found(f);
+    show_changes(&first, &second);
+    end_line();
 }

@@ -7,20 +7,14 @@ use Rattle.digest.specs.Digest.{digestOf}
 use Rattle.order.specs.Order.{Refusal}
 use Rattle.order.proofs.Laws.{refusal}
 use Rattle.wire.specs.Runs.{differ}
-use Rattle.shape.specs.Differ as difference
-use Rattle.shape.specs.Differ.{Diff, agree}
-use Rattle.log.specs.Outcomes.{leaves, rootOrder}
+use Rattle.log.specs.Outcomes.{leaves}
 use Rattle.letter.specs.Bytes.{recordIn}
-use Rattle.letter.specs.Order.{fieldsOrder, from7}
 use Rattle.finder.specs.declared.Found.{Found}
-use Rattle.finder.specs.Outcome.{FindOutcome, found, answerOf, findRefused, findDone, firstDifference, ownOrder, roomOrder, findOrder, findOutcome}
+use Rattle.finder.specs.Outcome.{FindOutcome, found, answerOf, findRefused, findDone, firstDifference, findOrder, findOutcome}
+use Rattle.finder.proofs.Settled.{done-zero}
+use Rattle.finder.proofs.Parts.{find-numbered}
 use Rattle.keeper.specs.Finder.{FindLeft, findLeft, answerNumber, findWritten, findCall}
 use Rattle.keeper.proofs.Kept.{kept-refused, kept-done}
-
--- done has the number 0, whatever was found
-done-zero : (d : Diff) (apart : ℕ) (first second : List ℕ) → findDone d apart first second .number ≡ 0
-done-zero agree apart first second = refl
-done-zero (difference.pair ours theirs) apart first second = refl
 
 module _ (size : ℕ) (bs rec letter first second : List ℕ) (old : ℕ) (r : Found) (x y : List ℕ)
     (e : found r x y ≡ findOutcome digestOf size bs rec letter first second) where
@@ -51,7 +45,8 @@ module _ (size : ℕ) (bs rec letter first second : List ℕ) (old : ℕ) (r : F
   -- n is the answer as C has it
   pub find-done : (n : ℕ) → n ≡ answerNumber (answerOf (r .finding)) → r .number ≡ 0
       → findLeft 0 n x y ≡ findCall size bs rec letter first second old
-  unfolding findOutcome findCall findOrder rootOrder from7 fieldsOrder ownOrder roomOrder
+  unfolding findOutcome findCall
   find-done n p z =
       ap (λ (n : ℕ). findLeft 0 n x y) p
-      ∙ kept-done number (findRefused first second) order done (λ n. refl) zero-done e kept findWritten tt z
+      ∙ kept-done number (findRefused first second) order done (λ n. refl) zero-done e kept findWritten
+      (find-numbered digestOf size bs rec letter first second) z

@@ -4,9 +4,9 @@ use mathlib.Core.Path.{_≡_, refl}
 use mathlib.Core.List.{List}
 use Prim.Native.Nat.{ℕ}
 use Rattle.digest.specs.Digest.{digestOf}
-use Rattle.letter.specs.Order.{fieldsOrder, from7}
 use Rattle.checker.specs.declared.Checked.{Checked}
 use Rattle.checker.specs.Outcome.{CheckOutcome, checked, checkRefused, checkDone, checkOrder, checkOutcome}
+use Rattle.checker.proofs.Accepted.{check-numbered}
 use Rattle.keeper.specs.Letters.{checkLeft, letterCheckCall}
 use Rattle.keeper.proofs.Kept.{kept-refused, kept-done}
 
@@ -29,6 +29,7 @@ module _ (size : ℕ) (root letter : List ℕ) (oldIndex oldStart oldLength : �
 
   pub check-done : r .number ≡ 0
       → checkLeft 0 (r .index) (r .start) (r .length) ≡ letterCheckCall size root letter oldIndex oldStart oldLength
-  unfolding checkOutcome letterCheckCall checkOrder from7 fieldsOrder
+  unfolding checkOutcome letterCheckCall
   check-done =
-      kept-done number checkRefused (checkOrder digestOf size root letter) (checkDone letter) (λ n. refl) refl e kept given tt
+      kept-done number checkRefused (checkOrder digestOf size root letter) (checkDone letter) (λ n. refl) refl e kept given
+      (check-numbered digestOf size root letter)

@@ -20,7 +20,7 @@ unfolding digestsFrom
 digests-each at zero bs = tt
 digests-each at (suc k) bs = (part-length at 32 bs, digests-each (at + 32) k bs)
 
-pub digests-at : (at k : ℕ) (bs : List ℕ) (j : ℕ) → j < k → getD (digestsFrom at k bs) j [] ≡ part (at + 32 * j) 32 bs
+digests-at : (at k : ℕ) (bs : List ℕ) (j : ℕ) → j < k → getD (digestsFrom at k bs) j [] ≡ part (at + 32 * j) 32 bs
 unfolding digestsFrom
 digests-at at zero bs j h = absurd (omega arith)
 digests-at at (suc k) bs zero h = ap (λ (p : ℕ). part p 32 bs) (omega arith)
@@ -28,7 +28,7 @@ digests-at at (suc k) bs (suc j) h = digests-at (at + 32) k bs j (omega arith) �
 
 -- ---- parts of the row
 
-pub digests-take : (at j k : ℕ) (bs : List ℕ) → j ≤ k → take j (digestsFrom at k bs) ≡ digestsFrom at j bs
+digests-take : (at j k : ℕ) (bs : List ℕ) → j ≤ k → take j (digestsFrom at k bs) ≡ digestsFrom at j bs
 unfolding digestsFrom
 digests-take at zero k bs h = refl
 digests-take at (suc j) zero bs h = absurd (omega arith)
@@ -39,9 +39,24 @@ pub digests-first : (at k : ℕ) (bs : List ℕ) → getD (digestsFrom at (suc k
 unfolding digestsFrom
 digests-first at k bs = refl
 
-pub digests-rest : (at k : ℕ) (bs : List ℕ) → drop 1 (digestsFrom at (suc k) bs) ≡ digestsFrom (at + 32) k bs
+digests-rest : (at k : ℕ) (bs : List ℕ) → drop 1 (digestsFrom at (suc k) bs) ≡ digestsFrom (at + 32) k bs
 unfolding digestsFrom
 digests-rest at k bs = refl
+
+-- with one more from number `from` on: all but the last, the last, and all but the first
+module _ (from k : ℕ) (bs : List ℕ) where
+  pub digests-but-last : take k (digestsFrom (32 * from) (suc k) bs) ≡ digestsFrom (32 * from) k bs
+  digests-but-last = digests-take (32 * from) k (suc k) bs (omega arith)
+
+  pub digests-last : {used : ℕ} → used ≡ k → getD (digestsFrom (32 * from) (suc k) bs) k [] ≡ part (32 * (from + used)) 32 bs
+  digests-last {used} u =
+      let e : 32 * from + 32 * k ≡ 32 * (from + used) = omega arith in
+      digests-at (32 * from) (suc k) bs k (omega arith) ∙ ap (λ (p : ℕ). part p 32 bs) e
+
+  pub digests-but-first : drop 1 (digestsFrom (32 * from) (suc k) bs) ≡ digestsFrom (32 * (from + 1)) k bs
+  digests-but-first =
+      let e : 32 * from + 32 ≡ 32 * (from + 1) = omega arith in
+      digests-rest (32 * from) k bs ∙ ap (λ (p : ℕ). digestsFrom p k bs) e
 
 -- the row behind other bytes
 pub digests-drop : (at k n : ℕ) (bs : List ℕ) → digestsFrom at k (drop n bs) ≡ digestsFrom (n + at) k bs

@@ -4,6 +4,7 @@ pub mod Digests
 pub mod Sides
 pub mod Spelling
 pub mod Apart
+pub mod Fits
 pub mod ItemsOf
 pub mod Putting
 pub mod Written

@@ -1,6 +1,5 @@
 // What a proof letter is: taken apart, its items counted and read from a log's nodes, and its root worked out.
 ghost use mathlib.Core.Path.{_≡_};
-ghost use Rattle.letter.specs.Items.{itemCount};
 ghost use Rattle.letter.specs.Order.{fields, fieldsRefused, fieldsOutcome};
 
 pub mod count;

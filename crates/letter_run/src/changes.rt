@@ -3,6 +3,7 @@ use crate::logs::letter_of;
 use crate::logs::log_of;
 use crate::logs::root_of;
 use runs::given::front;
+use runs::lines::end_line;
 use runs::lines::say;
 use runs::lines::say_number;
 
@@ -23,7 +24,7 @@ fn show_count(number: usize, times: u64) {
     if 0 < times {
         say_number(b"  ", number as u64);
         say_number(b": ", times);
-        say(b"\n");
+        end_line();
     }
 }
 
@@ -53,18 +54,11 @@ fn show_lengths(
 }
 
 // The number of a letter of n bytes with some bits of one byte flipped.
-fn flipped(
-    size: u64,
-    root: &[u8; 32],
-    letter: &mut [u8; 400],
-    n: usize,
-    at: usize,
-    bits: u8,
-) -> u32 {
-    let b = wire::read_byte(letter, at);
-    wire::write_byte(letter, at, b ^ bits);
-    let c = checker::check(size, root, front(letter, n));
-    wire::write_byte(letter, at, b);
+fn flipped(size: u64, root: &[u8; 32], letter: [u8; 400], n: usize, at: usize, bits: u8) -> u32 {
+    let mut other = letter;
+    let b = wire::read_byte(&other, at);
+    wire::write_byte(&mut other, at, b ^ bits);
+    let c = checker::check(size, root, front(&other, n));
     c.number
 }
 
@@ -72,20 +66,20 @@ fn flipped(
 fn flip_byte(
     size: u64,
     root: &[u8; 32],
-    letter: &mut [u8; 400],
+    letter: &[u8; 400],
     n: usize,
     at: usize,
     counts: &mut [u64; 16],
 ) {
     let bits = BITS;
     for i in 0..8 {
-        let number = flipped(size, root, letter, n, at, bits[i]);
+        let number = flipped(size, root, *letter, n, at, bits[i]);
         count(counts, number);
     }
 }
 
 // Each bit of a letter of n bytes.
-fn show_flips(size: u64, root: &[u8; 32], letter: &mut [u8; 400], n: usize) {
+fn show_flips(size: u64, root: &[u8; 32], letter: &[u8; 400], n: usize) {
     let mut counts = [0u64; 16];
     for at in 0..n {
         flip_byte(size, root, letter, n, at, &mut counts);
@@ -101,5 +95,5 @@ pub(crate) fn show_all() {
     let root = root_of(size, &nodes);
     show_lengths(b"cut\n", size, &root, &letter, 0, n);
     show_lengths(b"longer\n", size, &root, &letter, 180, 401);
-    show_flips(size, &root, &mut letter, n);
+    show_flips(size, &root, &letter, n);
 }

@@ -4,82 +4,90 @@ use crate::logs::log_of;
 use crate::logs::root_of;
 use crate::logs::show_checked;
 use runs::given::front;
-use runs::lines::say;
+use runs::given::restate;
+use runs::lines::end_line;
 use runs::lines::say_numbers;
 
-// The trusted size and how much of the root is lent; the size, the index and the record length that the letter states, and its length. Done; then by
-// 1, 12, 7 (under 20), 8, 5, 3, 7 (exact), 9, each at its edge and where a later one applies too.
-const CHECKS: [[u64; 6]; 31] = [
-    [11, 32, 11, 3, 200, 316],
-    [2, 32, 11, 3, 200, 316],
-    [8589934592, 32, 11, 3, 200, 316],
-    [2, 31, 11, 3, 200, 316],
-    [11, 31, 11, 3, 200, 316],
-    [11, 33, 11, 3, 200, 316],
-    [11, 0, 11, 3, 200, 316],
-    [11, 31, 11, 3, 200, 0],
-    [11, 32, 11, 3, 200, 0],
-    [11, 32, 11, 3, 200, 19],
-    [11, 32, 4, 3, 200, 19],
-    [11, 32, 4, 3, 200, 316],
-    [11, 32, 18446744073709551615, 3, 200, 316],
-    [4, 32, 11, 3, 200, 316],
-    [11, 32, 4, 7, 200, 316],
-    [11, 32, 11, 7, 200, 316],
-    [11, 32, 11, 18446744073709551615, 200, 316],
-    [0, 32, 0, 0, 200, 316],
-    [11, 32, 11, 7, 16385, 316],
-    [11, 32, 11, 3, 16385, 316],
-    [11, 32, 11, 3, 4294967295, 316],
-    [11, 32, 11, 3, 16385, 20],
-    [11, 32, 11, 3, 16384, 316],
-    [11, 32, 11, 3, 199, 316],
-    [11, 32, 11, 3, 201, 316],
-    [11, 32, 11, 3, 200, 315],
-    [11, 32, 11, 3, 200, 317],
-    [11, 32, 11, 3, 200, 20],
-    [8589934591, 32, 8589934591, 0, 200, 316],
-    [11, 32, 11, 2, 200, 316],
-    [11, 32, 11, 3, 168, 284],
-];
-
-// The letter as it states another size, index and record length. What is written first over too many bytes is written over again.
-fn restated(named: u64, index: u64, stated: u64, letter: &[u8; 400]) -> [u8; 400] {
-    let mut out = [0u8; 400];
-    wire::write_run(&mut out, 0, letter);
-    wire::write8(&mut out, 12, stated);
-    wire::write8(&mut out, 8, index);
-    wire::write8(&mut out, 0, named);
+// The root of the log, and a byte behind it.
+fn root() -> [u8; 33] {
+    let mut nodes = [0u8; 1216];
+    let size = log_of(7, &mut nodes);
+    let mut out = [0u8; 33];
+    wire::write_digest(&mut out, 0, root_of(size, &nodes));
     out
 }
 
-// One line: what is given, and what the checker makes of it.
-fn try_check(row: [u64; 6], root: &[u8; 33], letter: &[u8; 400]) {
-    say_numbers(b"check", &row);
-    let given = restated(row[2], row[3], row[4], letter);
-    let c = checker::check(
-        row[0],
-        front(root, row[1] as usize),
-        front(&given, row[5] as usize),
-    );
-    show_checked(b":", c);
-    say(b"\n");
+// The letter of index 3 as it states another size, index and record length.
+fn restated(named: u64, index: u64, stated: u64) -> [u8; 400] {
+    let mut nodes = [0u8; 1216];
+    let size = log_of(7, &mut nodes);
+    let mut out = [0u8; 400];
+    letter_of(size, 3, &nodes, &mut out);
+    restate(&mut out, named, index, stated);
+    out
 }
 
-// A line for each row.
-fn try_checks(root: &[u8; 33], letter: &[u8; 400]) {
-    let checks = CHECKS;
-    for i in 0..31 {
-        try_check(checks[i], root, letter);
-    }
+// One line: what is given, and what the checker makes of it. The trusted size and how much of the root is lent; the size, the index and the record
+// length that the letter states, and its length.
+fn try_check(size: u64, lent: u64, named: u64, index: u64, stated: u64, length: u64) {
+    let row = [size, lent, named, index, stated, length];
+    say_numbers(b"check", &row);
+    let trusted = root();
+    let given = restated(named, index, stated);
+    let c = checker::check(
+        size,
+        front(&trusted, lent as usize),
+        front(&given, length as usize),
+    );
+    show_checked(b":", c);
+    end_line();
+}
+
+// Done; then by 1, 12, each at its edge and where a later one applies too.
+fn try_trusted() {
+    try_check(11, 32, 11, 3, 200, 316);
+    try_check(2, 32, 11, 3, 200, 316);
+    try_check(8589934592, 32, 11, 3, 200, 316);
+    try_check(2, 31, 11, 3, 200, 316);
+    try_check(11, 31, 11, 3, 200, 316);
+    try_check(11, 33, 11, 3, 200, 316);
+    try_check(11, 0, 11, 3, 200, 316);
+    try_check(11, 31, 11, 3, 200, 0);
+}
+
+// By 7 (under 20), 8, 5, 3, likewise.
+fn try_stated() {
+    try_check(11, 32, 11, 3, 200, 0);
+    try_check(11, 32, 11, 3, 200, 19);
+    try_check(11, 32, 4, 3, 200, 19);
+    try_check(11, 32, 4, 3, 200, 316);
+    try_check(11, 32, 18446744073709551615, 3, 200, 316);
+    try_check(4, 32, 11, 3, 200, 316);
+    try_check(11, 32, 4, 7, 200, 316);
+    try_check(11, 32, 11, 7, 200, 316);
+    try_check(11, 32, 11, 18446744073709551615, 200, 316);
+    try_check(0, 32, 0, 0, 200, 316);
+    try_check(11, 32, 11, 7, 16385, 316);
+    try_check(11, 32, 11, 3, 16385, 316);
+    try_check(11, 32, 11, 3, 4294967295, 316);
+    try_check(11, 32, 11, 3, 16385, 20);
+}
+
+// By 7 (exact), 9, likewise.
+fn try_lengths() {
+    try_check(11, 32, 11, 3, 16384, 316);
+    try_check(11, 32, 11, 3, 199, 316);
+    try_check(11, 32, 11, 3, 201, 316);
+    try_check(11, 32, 11, 3, 200, 315);
+    try_check(11, 32, 11, 3, 200, 317);
+    try_check(11, 32, 11, 3, 200, 20);
+    try_check(8589934591, 32, 8589934591, 0, 200, 316);
+    try_check(11, 32, 11, 2, 200, 316);
+    try_check(11, 32, 11, 3, 168, 284);
 }
 
 pub(crate) fn show_all() {
-    let mut nodes = [0u8; 1216];
-    let size = log_of(7, &mut nodes);
-    let mut letter = [0u8; 400];
-    letter_of(size, 3, &nodes, &mut letter);
-    let mut root = [0u8; 33];
-    wire::write_digest(&mut root, 0, root_of(size, &nodes));
-    try_checks(&root, &letter);
+    try_trusted();
+    try_stated();
+    try_lengths();
 }

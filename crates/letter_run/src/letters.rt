@@ -1,22 +1,15 @@
 // Every letter of logs of 1 to 20 records: written, checked, its record compared.
-use crate::logs::differ_behind;
+use crate::logs::changed_behind;
 use crate::logs::grow;
-use crate::logs::length_of;
+use crate::logs::output;
 use crate::logs::root_of;
 use crate::logs::show_checked;
-use runs::given::fill;
 use runs::given::front;
+use runs::given::length_of;
 use runs::given::record_of;
-use runs::lines::say;
+use runs::lines::end_line;
 use runs::lines::say_digest;
 use runs::lines::say_numbers;
-
-// 1 where a byte behind the first n has changed, else 0.
-fn changed_behind(out: &[u8; 16640], n: usize) -> u64 {
-    let mut before = [0u8; 16640];
-    fill(9, &mut before);
-    differ_behind(out, &before, n)
-}
 
 // A letter of n bytes: its digest; what the checker makes of it; whether its record differs from the log's, and whether a byte behind it has changed.
 fn show_letter(size: u64, root: [u8; 32], out: &[u8; 16640], n: usize, rec: &[u8]) {
@@ -26,13 +19,12 @@ fn show_letter(size: u64, root: [u8; 32], out: &[u8; 16640], n: usize, rec: &[u8
     let other = wire::differ(checker::record_in(size, &root, letter), rec);
     let numbers = [other as u64, changed_behind(out, n)];
     say_numbers(b" differ", &numbers);
-    say(b"\n");
+    end_line();
 }
 
 // The line of one letter, written with its record.
 fn show_line(leaves: usize, size: u64, index: usize, rec: &[u8], nodes: &[u8; 1216]) {
-    let mut out = [0u8; 16640];
-    fill(9, &mut out);
+    let mut out = output();
     let w = writer::write_letter(size, index as u64, rec, nodes, &mut out);
     let numbers = [
         leaves as u64,

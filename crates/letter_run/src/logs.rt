@@ -1,17 +1,10 @@
 // The logs that letters are of, what is written and checked of them, and how an answer is printed.
 use checker::Checked;
+use runs::given::fill;
 use runs::given::front;
+use runs::given::length_of;
 use runs::given::record_of;
 use runs::lines::say_numbers;
-
-// The lengths of the records, over and over.
-const LENGTHS: [usize; 5] = [0, 1, 31, 200, 16384];
-
-// The length of record k.
-pub(crate) fn length_of(k: usize) -> usize {
-    let lengths = LENGTHS;
-    lengths[k % 5]
-}
 
 // Record k appended to a log of at most 20; the new size.
 pub(crate) fn grow(size: u64, k: usize, nodes: &mut [u8; 1216]) -> u64 {
@@ -37,8 +30,8 @@ pub(crate) fn root_of(size: u64, nodes: &[u8; 1216]) -> [u8; 32] {
     d.bytes
 }
 
-// The letter of an index with a record of at most 200 bytes, in an output that held zeros; its length.
-pub(crate) fn letter_of(size: u64, index: usize, nodes: &[u8; 1216], out: &mut [u8; 400]) -> usize {
+// The letter of an index, in the first bytes of an output; its length.
+pub(crate) fn letter_of(size: u64, index: usize, nodes: &[u8; 1216], out: &mut [u8]) -> usize {
     let rec = record_of(index);
     let w = writer::write_letter(
         size,
@@ -50,15 +43,18 @@ pub(crate) fn letter_of(size: u64, index: usize, nodes: &[u8; 1216], out: &mut [
     w.length
 }
 
-// 1 where two buffers differ behind the first n bytes, else 0.
-pub(crate) fn differ_behind(a: &[u8], b: &[u8], n: usize) -> u64 {
-    if a.len() < n {
-        return 1;
-    }
-    if b.len() < n {
-        return 1;
-    }
-    wire::differ(&a[n..], &b[n..]) as u64
+// An output before a letter is written.
+pub(crate) fn output() -> [u8; 16640] {
+    let mut out = [0u8; 16640];
+    fill(9, &mut out);
+    out
+}
+
+// 1 where a byte of an output behind the first n has changed, else 0.
+pub(crate) fn changed_behind(out: &[u8; 16640], n: usize) -> u64 {
+    let mut before = output();
+    wire::write_run(&mut before, 0, front(out, n));
+    wire::differ(out, &before) as u64
 }
 
 // A label, the number, the index, and where the record lies in the letter.

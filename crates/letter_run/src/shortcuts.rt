@@ -5,7 +5,7 @@ use crate::logs::root_of;
 use crate::logs::show_checked;
 use runs::given::front;
 use runs::given::record_of;
-use runs::lines::say;
+use runs::lines::end_line;
 use runs::lines::say_numbers;
 
 // A letter with a record of n bytes and what follows it.
@@ -24,7 +24,7 @@ fn show_check(label: &[u8], size: u64, root: [u8; 32], letter: &[u8]) {
     let numbers = [size, wire::read8(letter, 0)];
     say_numbers(label, &numbers);
     show_checked(b":", checker::check(size, &root, letter));
-    say(b"\n");
+    end_line();
 }
 
 // Against the true size; the same, where the letter names that too; against the size that it names.
@@ -68,7 +68,7 @@ fn show_whole() {
     let d = digest::digest_of(b"");
     let root = d.bytes;
     show_checked(b"one empty record:", checker::check(1, &root, &letter));
-    say(b"\n");
+    end_line();
 }
 
 pub(crate) fn show_all() {

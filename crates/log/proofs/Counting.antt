@@ -1,14 +1,14 @@
 -- What the leaf count of a size tells, and what an append then finds.
 use mathlib.Core.Path.{_≡_, sym, ap, _∙_}
 use mathlib.Core.Logic.{inl, inr}
-use Prim.Native.Nat.{ℕ, suc, _+_, _-_, _^_, _≤_, _<_}
+use Prim.Native.Nat.{ℕ, suc, _+_, _^_, _≤_, _<_}
 use native.Mathlib.Omega.{arith}
 use Rattle.shape.specs.declared.Counted.{Counted}
 use Rattle.shape.specs.declared.Counted.the-variants.{Leaves, NoCount}
 use Rattle.shape.specs.Answers.{Answer, done, counted}
 use Rattle.shape.specs.Sizes.{sizeOf, countAnswer, trailingOnes}
 use Rattle.shape.proofs.Sizes.{size-suc, size-ge, size-le}
-use Rattle.shape.proofs.Counts.{count-cases, count-done}
+use Rattle.shape.proofs.Counts.{count-size, count-cases, count-done}
 use Rattle.shape.proofs.Trailing.{trailing-pow, trailing-most}
 use Rattle.log.specs.Outcomes.{leaves}
 
@@ -19,7 +19,7 @@ pub record Counts (size n : ℕ) : Type 0 where
   pub most : n ≤ 2 ^ 32
   pub is : sizeOf n ≡ size
 
-pub counts-done : (size n : ℕ) → countAnswer size ≡ done n → Counts size n
+counts-done : (size n : ℕ) → countAnswer size ≡ done n → Counts size n
 counts-done size n e =
     record {
       number = ap (λ (a : Answer). a .number) e;
@@ -27,6 +27,10 @@ counts-done size n e =
       most = count-done size n e .0;
       is = count-done size n e .1;
     }
+
+-- every leaf count within the limits is that of its size
+pub counts-size : (n : ℕ) → n ≤ 2 ^ 32 → Counts (sizeOf n) n
+counts-size n few = counts-done (sizeOf n) n (count-size n few)
 
 -- where 1 does not apply there is a leaf count
 pub counts-known : (size : ℕ) → (countAnswer size .number ≡ 1 → ⊥) → Counts size (leaves size)

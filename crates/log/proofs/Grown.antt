@@ -1,7 +1,7 @@
 -- An append to a buffer that begins with a log's nodes, and the root of such a buffer.
 use mathlib.Core.Path.{_≡_, refl, sym, ap, ap₂, _∙_}
 use mathlib.Core.List.{List, [], _∷_, _++_, map, map-append}
-use Prim.Native.Nat.{ℕ, suc, _+_, _-_, _*_, _^_, _≤_, _<_}
+use Prim.Native.Nat.{ℕ, suc, _+_, _*_, _^_, _≤_, _<_}
 use native.Mathlib.Nat.{zero-add}
 use native.Mathlib.Omega.{arith}
 use borrow.Author.Needs.{needs}
@@ -14,8 +14,8 @@ use Rattle.shape.specs.Tree.{Each, root}
 use Rattle.shape.specs.Folded.{tree}
 use Rattle.shape.specs.Nodes.{Holds, nodes, newNodes}
 use Rattle.shape.specs.Positions.{peaks, fold}
-use Rattle.shape.proofs.Counts.{count-size}
 use Rattle.shape.proofs.Sizes.{size-suc}
+use Rattle.shape.proofs.Each.{each-map}
 use Rattle.shape.proofs.Nodes.{nodes-length, nodes-32}
 use Rattle.shape.proofs.Appends.{append-nodes, new-length}
 use Rattle.shape.proofs.Reading.{root-read}
@@ -23,15 +23,11 @@ use Rattle.log.specs.Nodes.{nodeIn, joined, nodesOf, Begins}
 use Rattle.log.specs.Outcomes.{leaves, appendOrder, appendDone, appendOutcome, rootOrder, rootDone, rootOutcome}
 use Rattle.log.proofs.Joined.{joined-length, joined-append, node-joined}
 use Rattle.log.proofs.Climbs.{new-sized}
-use Rattle.log.proofs.Counting.{Counts, counts-done}
+use Rattle.log.proofs.Counting.{Counts, counts-size}
 
--- the digests of records have 32 bytes each
-pub digests-32 : (rs : List (List ℕ)) → Each 32 (map digestOf rs)
-digests-32 [] = tt
-digests-32 (r ∷ rs) = (digest-length r, digests-32 rs)
-
+-- each node has 32 bytes, and there are as many as the size says
 log-32 : (rs : List (List ℕ)) → Each 32 (nodes digestOf (map digestOf rs))
-log-32 rs = nodes-32 digestOf digest-length (map digestOf rs) (digests-32 rs)
+log-32 rs = nodes-32 digestOf digest-length (map digestOf rs) (each-map 32 digestOf digest-length rs)
 
 log-length : (rs : List (List ℕ)) → length (nodes digestOf (map digestOf rs)) ≡ sizeOf (length rs)
 log-length rs = nodes-length digestOf (map digestOf rs) ∙ ap sizeOf (length-map rs digestOf)
@@ -55,7 +51,7 @@ module _ (rs : List (List ℕ)) (bs : List ℕ) (b : Begins bs rs) where
 
 module _ (rs : List (List ℕ)) (r bs : List ℕ) (few : length rs < 2 ^ 32) (b : Begins bs rs) where
   k : Counts (sizeOf (length rs)) (length rs)
-  k = counts-done (sizeOf (length rs)) (length rs) (count-size (length rs) (omega arith))
+  k = counts-size (length rs) (omega arith)
 
   -- the old nodes and the new ones are the nodes of one record more
   old-and-new : nodesOf rs ++ joined (newNodes digestOf (nodeIn bs) (leaves (sizeOf (length rs))) (digestOf r)) ≡ nodesOf (rs ++ (r ∷ []))
@@ -104,7 +100,7 @@ pub root-of-log : (rs : List (List ℕ)) (bs : List ℕ) → 0 < length rs → l
     → rootOutcome (sizeOf (length rs)) bs ≡ record { number = 0; digest = root digestOf (tree (map digestOf rs)) }
 unfolding rootOutcome rootOrder rootDone
 root-of-log rs bs some few b =
-    let c = counts-done (sizeOf (length rs)) (length rs) (count-size (length rs) few) in
+    let c = counts-size (length rs) few in
     let long = begins-long rs bs b in
     let n : leaves (sizeOf (length rs)) ≡ length (map digestOf rs) = c .value ∙ sym (length-map rs digestOf) in
     sym (passes _ _ _ {r = rootDone (sizeOf (length rs)) bs} refl (search needs))

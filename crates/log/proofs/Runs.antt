@@ -3,32 +3,36 @@ use mathlib.Core.Path.{_≡_, refl, sym, ap, _∙_, subst}
 use mathlib.Core.Logic.{by-cases, _≢_}
 use mathlib.Core.Bool.{true, false}
 use mathlib.Core.List.{List, [], _∷_, _++_, append-assoc, append-nil}
-use Prim.Native.Nat.{ℕ, suc, _+_, _-_, _*_, _^_, _≤_, _<_}
+use Prim.Native.Nat.{ℕ, zero, suc, _+_, _-_, _*_, _^_, _≤_, _<_}
 use native.Mathlib.Decide.{ℕ-discrete}
 use native.Mathlib.Omega.{arith}
 use borrow.Author.Tests.{eq-eqb, ne-eqb}
 use lib.Dec.{eqb}
-use lib.ListN.{length, take, drop, length-append, length-drop}
+use lib.ListN.{length, getD, take, drop, length-append, length-drop}
 use lib.Seq.{take-at, drop-at, drop-drop}
 use Rattle.order.proofs.Laws.{accepted, refusal}
 use Rattle.digest.specs.Digest.{digestOf}
 use Rattle.shape.specs.Sizes.{sizeOf, hashCount}
 use Rattle.shape.proofs.Nodes.{nodes-empty}
-use Rattle.shape.proofs.Counts.{count-size}
 use Rattle.shape.proofs.Sizes.{size-zero, size-mono}
 use Rattle.log.specs.Nodes.{nodesOf, joined, Begins}
 use Rattle.log.specs.Outcomes.{AppendOutcome, leaves, appendRefused, appendOrder, appendDone, appendOutcome}
 use Rattle.log.specs.Runs.{Short, State, step, run, empty, Sound}
-use Rattle.log.proofs.Counting.{counts-done}
+use Rattle.log.proofs.Counting.{counts-size}
 use Rattle.log.proofs.Grown.{nodes-bytes, append-grows}
 
--- one record more
+-- one record more, and the one at a place
 snoc-length : (rs : List (List ℕ)) (r : List ℕ) → length (rs ++ (r ∷ [])) ≡ suc (length rs)
 snoc-length rs r = length-append rs (r ∷ []) ∙ omega arith
 
 short-snoc : (rs : List (List ℕ)) (r : List ℕ) → Short rs → length r ≤ 16384 → Short (rs ++ (r ∷ []))
 short-snoc [] r s l = (l, tt)
 short-snoc (x ∷ rs) r s l = (s .0, short-snoc rs r (s .1) l)
+
+pub short-at : (rs : List (List ℕ)) (i : ℕ) → Short rs → i < length rs → length (getD rs i []) ≤ 16384
+short-at [] i s p = absurd (omega arith)
+short-at (r ∷ rs) zero s p = s .0
+short-at (r ∷ rs) (suc i) s p = short-at rs i (s .1) (omega arith)
 
 -- a step whose append is done, and one whose append is refused
 step-taken : (s : State) (r : List ℕ) (o : AppendOutcome) → appendOutcome (s .size) r (s .bytes) ≡ o → o .number ≡ 0
@@ -89,7 +93,7 @@ module _ (bs : List ℕ) (s : State) (g : Sound bs s) (r : List ℕ) where
   sound-done z =
       let a = accepted (λ (x : AppendOutcome). x .number) (appendRefused (s .size) (s .bytes)) (appendOrder (s .size) r (s .bytes)) (appendDone (s .size) r (s .bytes))
       (λ m. refl) refl {r = appendOutcome (s .size) r (s .bytes)} refl tt z .0 in
-      let k = counts-done (sizeOf (length (s .taken))) (length (s .taken)) (count-size (length (s .taken)) (g .few)) in
+      let k = counts-size (length (s .taken)) (g .few) in
       let v : leaves (s .size) ≡ length (s .taken) = ap leaves (g .size) ∙ k .value in
       let w : 32 * sizeOf (suc (length (s .taken))) ≤ length (s .bytes) = subst (λ (x : ℕ). 32 * sizeOf (suc x) ≤ length (s .bytes)) v (a .1 .1 .1 .0) in
       sound-taken (omega (arith, g .few, a .1 .0)) (a .1 .1 .0) w .1

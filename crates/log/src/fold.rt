@@ -1,6 +1,5 @@
 // The peaks of a log, folded from the right.
 ghost use mathlib.Core.Path.{_≡_};
-ghost use Prim.Native.Nat.{_+_, _*_, _^_, _≤_, _<_};
 ghost use Rattle.digest.specs.Digest.{digestOf};
 ghost use Rattle.shape.specs.Positions.{peaksIn, fold};
 ghost use Rattle.log.specs.Nodes.{nodeIn, foldFrom};

@@ -1,6 +1,6 @@
 // The new nodes of an append: the leaf, and the parents above it.
 ghost use mathlib.Core.Path.{_≡_};
-ghost use Prim.Native.Nat.{_+_, _*_, _^_, _≤_, _<_};
+ghost use Prim.Native.Nat.{_+_, _*_, _^_, _≤_};
 ghost use lib.ListN.{length};
 ghost use Rattle.digest.specs.Digest.{digestOf};
 ghost use Rattle.wire.specs.Runs.{splice};

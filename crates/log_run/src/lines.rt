@@ -2,23 +2,23 @@
 use digest::Digest;
 use log::Appended;
 use log::Rooted;
-use runs::lines::say;
+use runs::lines::end_line;
 use runs::lines::say_hex;
 use runs::lines::say_number;
+use runs::lines::say_numbers;
 
 // A label, a digest in hexadecimal, and the end of the line.
 pub(crate) fn show_digest(label: &[u8], d: Digest) {
     let bytes = d.bytes;
     say_hex(label, bytes);
-    say(b"\n");
+    end_line();
 }
 
 // A label, 01's number, the size and the hash count, and the end of the line.
 pub(crate) fn show_appended(label: &[u8], a: Appended) {
-    say_number(label, a.number as u64);
-    say_number(b" ", a.size);
-    say_number(b" ", a.count);
-    say(b"\n");
+    let numbers = [a.number as u64, a.size, a.count];
+    say_numbers(label, &numbers);
+    end_line();
 }
 
 // A label, 01's number and the root.

@@ -9,6 +9,7 @@ use given::root_lent;
 use lines::show_appended;
 use lines::show_digest;
 use lines::show_rooted;
+use log::Appended;
 use runs::given::record_of;
 use runs::lines::say;
 use runs::lines::say_number;
@@ -29,15 +30,20 @@ fn show_state(size: u64, nodes: &[u8; 2624]) {
     show_rooted(b"  root ", log::root(size, nodes));
 }
 
+// The lines of an append of the first n bytes of record i.
+fn show_append(i: usize, n: usize, a: Appended, nodes: &[u8; 2624]) {
+    say_number(b"append ", i as u64);
+    say_number(b", record of length ", n as u64);
+    show_appended(b":", a);
+    show_state(a.size, nodes);
+}
+
 // Record i, its first n bytes, appended, and the lines of that; the new size.
 fn append_next(size: u64, i: usize, n: usize, nodes: &mut [u8; 2624], shown: bool) -> u64 {
     let rec = record_of(i);
     let a = append_lent(size, &rec, n, nodes, 2624);
     if shown {
-        say_number(b"append ", i as u64);
-        say_number(b", record of length ", n as u64);
-        show_appended(b": ", a);
-        show_state(a.size, nodes);
+        show_append(i, n, a, nodes);
     }
     a.size
 }
@@ -58,16 +64,21 @@ fn show_whole(label: &[u8], nodes: &[u8; 2624]) {
     show_digest(label, digest::digest_of(nodes));
 }
 
-// One append, and the whole buffer before and after.
-fn try_append(size: u64, n: usize, lent: usize, nodes: &mut [u8; 2624]) {
+// What an append is given.
+fn show_given(size: u64, n: usize, lent: usize) {
     say_number(b"size ", size);
     say_number(b", record of length ", n as u64);
     say_number(b", buffer of length ", lent as u64);
     say(b":\n");
+}
+
+// One append, and the whole buffer before and after.
+fn try_append(size: u64, n: usize, lent: usize, nodes: &mut [u8; 2624]) {
+    show_given(size, n, lent);
     show_whole(b"  before ", nodes);
     let rec = record_of(40);
     let a = append_lent(size, &rec, n, nodes, lent);
-    show_appended(b"  append ", a);
+    show_appended(b"  append", a);
     show_whole(b"  after ", nodes);
 }
 

@@ -152,6 +152,15 @@ module _ {X : Type 0} (number : X → ℕ) (refused : ℕ → X) (order : List R
 
 -- ---- an order in two parts
 
+-- what passes the whole passes both parts, and the other way round
+pub pass-parts : (xs ys : List Refusal) → Passes (xs ++ ys) → Passes xs × Passes ys
+pass-parts [] ys p = (tt, p)
+pass-parts (m if t ∷ later) ys p = let b = pass-parts later ys (p .1) in ((p .0, b .0), b .1)
+
+pub pass-whole : (xs ys : List Refusal) → Passes xs → Passes ys → Passes (xs ++ ys)
+pass-whole [] ys p q = q
+pass-whole (m if t ∷ later) ys p q = (p .0, pass-whole later ys (p .1) q)
+
 pub verdict-append : {X : Type 0} (refused : ℕ → X) (xs ys : List Refusal) (done : X)
     → verdict refused (xs ++ ys) done ≡ verdict refused xs (verdict refused ys done)
 unfolding verdict

@@ -1,2 +1,3 @@
--- One byte more of a record.
+-- One byte more of a record, and how many digits a number has.
 pub mod More
+pub mod Digits

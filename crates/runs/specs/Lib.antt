@@ -1,2 +1,3 @@
--- The bytes that the programs give.
+-- The bytes that the programs give, and what is printed.
 pub mod Given
+pub mod Lines

@@ -1,8 +1,19 @@
-// The bytes that a crate is given: records of any length, and front parts.
+// The bytes that a crate is given: records of any length, letters that state other numbers, and front parts.
 ghost use mathlib.Core.Path.{_≡_};
 ghost use lib.ListN.{length};
 ghost use Rattle.wire.specs.Lent.{lent};
-ghost use Rattle.runs.specs.Given.{recordOf, frontOf};
+ghost use Rattle.runs.specs.Given.{recordOf, lengthOf, restated, frontOf};
+
+// The lengths of the records of a log, over and over.
+const LENGTHS: [usize; 5] = [0, 1, 31, 200, 16384];
+
+// The length of record k of a log.
+pub fn length_of(k: usize) -> usize
+    ensures { λ r. ⌜ r ≡ lengthOf k ⌝ }
+{
+    let lengths = LENGTHS;
+    lengths[k % 5]
+}
 
 // Fills out with record i: byte j is (7i + j) mod 251.
 pub fn fill(i: usize, out: &mut [u8])
@@ -23,6 +34,15 @@ pub fn record_of(i: usize) -> [u8; 16385]
     let mut out = [0u8; 16385];
     fill(i, &mut out);
     out
+}
+
+// A letter made to state another size, index and record length. What is written first over too many bytes is written over again.
+pub fn restate(letter: &mut [u8], named: u64, index: u64, stated: u64)
+    ensures { λ _. ⌜ now (letter .exit) ≡ restated named index stated (now (letter .entry)) ⌝ }
+{
+    wire::write8(letter, 12, stated);
+    wire::write8(letter, 8, index);
+    wire::write8(letter, 0, named);
 }
 
 // The first n bytes, or all where there are fewer.

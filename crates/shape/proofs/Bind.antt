@@ -6,16 +6,16 @@ use native.Mathlib.Omega.{arith}
 use lib.ListN.{length, length-append, take, drop}
 use lib.Seq.{take-at, drop-at}
 use Rattle.shape.specs.Tree.{Tree, tip, fork, Each, Tips32, Alike, tips, forks, root, inputs}
-use Rattle.shape.specs.Differ.{differ, Shown}
+use Rattle.shape.specs.Difference.{difference, Shown}
 use Rattle.shape.proofs.Each.{each-append}
-use Rattle.shape.proofs.Differs.{shown-map, shown-cons, shown-append}
+use Rattle.shape.proofs.Difference.{shown-map, shown-cons, shown-append}
 
 -- two joined lists that are equal, the first parts of one length
 module _ {A : Type 0} (a b c d : List A) (n : length a ≡ length c) (e : a ++ b ≡ c ++ d) where
-  fronts : a ≡ c
+  pub fronts : a ≡ c
   fronts = sym (take-at a b (length c) n) ∙ ap (take (length c)) e ∙ take-at c d (length c) refl
 
-  backs : b ≡ d
+  pub backs : b ≡ d
   backs = sym (drop-at a b (length c) n) ∙ ap (drop (length c)) e ∙ drop-at c d (length c) refl
 
 module _ (digest : List ℕ → List ℕ) where
@@ -37,8 +37,8 @@ module _ (digest : List ℕ → List ℕ) where
     )
 
     pub bind : {t u : Tree} → Alike t u → Tips32 t → Tips32 u → root digest t ≡ root digest u
-        → Shown digest (t ≡ u) (differ (inputs digest t) (inputs digest u))
-    unfolding differ
+        → Shown digest (t ≡ u) (difference (inputs digest t) (inputs digest u))
+    unfolding difference
     bind tips p q e = ap tip e
     bind (forks {l} {m} {r} {s} a b) p q e =
         shown-cons digest (fork l r ≡ fork m s) (root digest l ++ root digest r) (root digest m ++ root digest s)
@@ -48,4 +48,4 @@ module _ (digest : List ℕ → List ℕ) where
         let g : root digest r ≡ root digest s = backs (root digest l) (root digest r) (root digest m) (root digest s) n k in
         shown-append digest (fork l r ≡ fork m s) (l ≡ m) (inputs digest l) (inputs digest m) (inputs digest r) (inputs digest s) (inputs-length a)
         (bind a (p .0) (q .0) f)
-        (λ x. shown-map digest (r ≡ s) _ (differ (inputs digest r) (inputs digest s)) (λ y. ap₂ fork x y) (bind b (p .1) (q .1) g))
+        (λ x. shown-map digest (r ≡ s) _ (difference (inputs digest r) (inputs digest s)) (λ y. ap₂ fork x y) (bind b (p .1) (q .1) g))

@@ -1,6 +1,6 @@
--- Strings of k bytes: so are those of two lists joined, of a part of a list, and the one at a place.
+-- Strings of k bytes: so are those of two lists joined, of a part of a list, the one at a place, and what a function gives whose values have k bytes.
 use mathlib.Core.Path.{_≡_}
-use mathlib.Core.List.{List, [], _∷_, _++_}
+use mathlib.Core.List.{List, [], _∷_, _++_, map}
 use Prim.Native.Nat.{ℕ, zero, suc, _<_}
 use native.Mathlib.Omega.{arith}
 use lib.ListN.{length, getD, take, drop}
@@ -24,3 +24,7 @@ pub each-at : (k : ℕ) (xs : List (List ℕ)) (j : ℕ) → j < length xs → E
 each-at k [] j l p = absurd (omega arith)
 each-at k (x ∷ xs) zero l p = p .0
 each-at k (x ∷ xs) (suc j) l p = each-at k xs j (omega arith) (p .1)
+
+pub each-map : {A : Type 0} (k : ℕ) (f : A → List ℕ) → ((x : A) → length (f x) ≡ k) → (xs : List A) → Each k (map f xs)
+each-map k f h [] = tt
+each-map k f h (x ∷ xs) = (h x, each-map k f h xs)

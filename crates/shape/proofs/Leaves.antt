@@ -1,6 +1,6 @@
--- No later leaf changes an earlier node, and leaf i stands at 2i minus the ones in i.
+-- No later leaf changes an earlier node; leaf i stands at 2i minus the ones in i, and is the digest of record i.
 use mathlib.Core.Path.{_≡_, refl, sym, ap, _∙_}
-use mathlib.Core.List.{List, [], _∷_, _++_, append-assoc, append-nil}
+use mathlib.Core.List.{List, [], _∷_, _++_, map, append-assoc, append-nil}
 use Prim.Native.Nat.{ℕ, zero, suc, _<_}
 use native.Mathlib.Nat.{zero-add}
 use native.Mathlib.Omega.{arith}
@@ -63,3 +63,9 @@ module _ (digest : List ℕ → List ℕ) where
       → node (sizeOf i) ≡ getD ds i []
   leaf-read node ds i p f =
       ap node (sym (zero-add (sizeOf i))) ∙ f (sizeOf i) (rw (nodes-length digest ds) (size-lt i (length ds) p)) ∙ leaf-at ds i p
+
+  -- over the digests of records it is the digest of record i
+  pub leaf-digest : (rs : List (List ℕ)) (i : ℕ) → i < length rs → getD (map digest rs) i [] ≡ digest (getD rs i [])
+  leaf-digest [] i p = absurd (omega arith)
+  leaf-digest (r ∷ rs) zero p = refl
+  leaf-digest (r ∷ rs) (suc i) p = leaf-digest rs i (omega arith)

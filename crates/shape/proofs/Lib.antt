@@ -7,7 +7,7 @@ pub mod Counts
 pub mod Narrow
 pub mod Only
 pub mod Marks
-pub mod Differs
+pub mod Difference
 pub mod Each
 pub mod Bind
 pub mod Prune

@@ -3,8 +3,8 @@ use mathlib.Core.Path.{_≡_, refl, sym, ap, ap₂, _∙_}
 use mathlib.Core.List.{List, _∷_, map, map-map, map-append}
 use Prim.Native.Nat.{ℕ}
 use Rattle.shape.specs.Tree.{Tree, tip, fork, Alike, tips, forks, left, right, places, root, inputs, hashedAt, Pruned, cut, kept, OnePlace}
-use Rattle.shape.specs.Differ.{pair, differ}
-use Rattle.shape.proofs.Differs.{differ-map}
+use Rattle.shape.specs.Difference.{unequal, difference}
+use Rattle.shape.proofs.Difference.{difference-map}
 
 alike-places : {t u : Tree} → Alike t u → places t ≡ places u
 alike-places tips = refl
@@ -37,10 +37,10 @@ module _ (digest : List ℕ → List ℕ) where
   inputs-placed t = pruned-inputs (whole t)
 
   -- the first difference of two trees' inputs stands at one place, of the whole tree too where parts of it were not looked into
-  pub first-place : {t v u : Tree} (a b : List ℕ) → Pruned digest t v → Alike v u → differ (inputs digest v) (inputs digest u) ≡ pair a b
+  pub first-place : {t v u : Tree} (a b : List ℕ) → Pruned digest t v → Alike v u → difference (inputs digest v) (inputs digest u) ≡ unequal a b
       → OnePlace digest t u a b
   first-place {t} {v} {u} a b p q e =
-      let f : differ (map (hashedAt digest t) (places v)) (map (hashedAt digest u) (places v)) ≡ pair a b =
-      ap₂ differ (sym (pruned-inputs p)) (ap (map (hashedAt digest u)) (alike-places q) ∙ sym (inputs-placed u)) ∙ e in
-      let w = differ-map (hashedAt digest t) (hashedAt digest u) (places v) a b f in
+      let f : difference (map (hashedAt digest t) (places v)) (map (hashedAt digest u) (places v)) ≡ unequal a b =
+      ap₂ difference (sym (pruned-inputs p)) (ap (map (hashedAt digest u)) (alike-places q) ∙ sym (inputs-placed u)) ∙ e in
+      let w = difference-map (hashedAt digest t) (hashedAt digest u) (places v) a b f in
       record { place = w .0; ours = w .1; theirs = w .2 }

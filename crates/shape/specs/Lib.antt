@@ -7,6 +7,6 @@ pub mod Positions
 pub mod Tree
 pub mod Folded
 pub mod Letter
-pub mod Differ
+pub mod Difference
 pub mod Seen
 pub mod Marks

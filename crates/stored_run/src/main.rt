@@ -3,10 +3,12 @@ ghost use mathlib.Core.Path.{_≡_};
 ghost use Rattle.stored.specs.Read.{readOutcome};
 use runs::given;
 use runs::given::front;
+use runs::lines::end_line;
 use runs::lines::say;
 use runs::lines::say_digest;
 use runs::lines::say_hex;
 use runs::lines::say_number;
+use runs::lines::say_numbers;
 use stored::Node;
 use wire::Written;
 
@@ -38,8 +40,8 @@ fn counting() -> [u8; 16422] {
     out
 }
 
-// A kind, as it is printed.
-fn say_kind(node: Node) {
+// A kind, as it is printed; how many bytes that is.
+fn say_kind(node: Node) -> usize {
     match node {
         Node::Inner => say(b" inner"),
         Node::Leaf(_) => say(b" leaf"),
@@ -54,25 +56,24 @@ fn show_read(bytes: &[u8]) {
     let node = reading.node;
     let digest = reading.digest;
     let wanted = leaf_length(bytes);
-    say(b"  read");
-    say_number(b" ", bytes.len() as u64);
-    say_number(b" ", wanted.number as u64);
+    let numbers = [bytes.len() as u64, wanted.number as u64];
+    say_numbers(b"  read", &numbers);
     say_kind(node);
     say_hex(b" ", digest);
     say_number(b" ", wanted.length as u64);
     say_digest(b" ", stored::record_of(bytes));
-    say(b"\n");
+    end_line();
 }
 
 // The end of a line on what was written: the number, the length, the digest of as many bytes, that of the buffer. Then what is read there.
 fn show_written(written: Written, out: &[u8]) {
     let number = written.number;
     let length = written.length;
-    say_number(b" ", number as u64);
-    say_number(b" ", length as u64);
+    let numbers = [number as u64, length as u64];
+    say_numbers(b"", &numbers);
     say_digest(b" ", front(out, length));
     say_digest(b" ", out);
-    say(b"\n");
+    end_line();
     if number == 0 {
         show_read(front(out, length));
     }
@@ -80,9 +81,8 @@ fn show_written(written: Written, out: &[u8]) {
 
 // A line on writing the leaf of a record: its length, the buffer's, the buffer's digest before.
 fn show_leaf(rec: &[u8], out: &mut [u8]) {
-    say(b"leaf");
-    say_number(b" ", rec.len() as u64);
-    say_number(b" ", out.len() as u64);
+    let numbers = [rec.len() as u64, out.len() as u64];
+    say_numbers(b"leaf", &numbers);
     say_digest(b" ", out);
     show_written(stored::write_leaf(rec, out), out);
 }
@@ -96,8 +96,7 @@ fn try_leaf(bytes: &[u8], n: usize, out: &mut [u8], room: usize) {
 
 // A line on writing an inner node: the buffer's length, the buffer's digest before.
 fn show_inner(digest: [u8; 32], out: &mut [u8]) {
-    say(b"inner");
-    say_number(b" ", out.len() as u64);
+    say_number(b"inner ", out.len() as u64);
     say_digest(b" ", out);
     show_written(stored::write_inner(digest, out), out);
 }
@@ -114,10 +113,9 @@ fn try_node(flag: u8, stated: u32, n: usize) {
     let mut node = counting();
     wire::write_byte(&mut node, 0, flag);
     wire::write4(&mut node, 33, stated);
-    say(b"node");
-    say_number(b" ", flag as u64);
-    say_number(b" ", stated as u64);
-    say(b"\n");
+    let numbers = [flag as u64, stated as u64];
+    say_numbers(b"node", &numbers);
+    end_line();
     show_read(front(&node, n));
 }
 

@@ -26,7 +26,7 @@ pub refused-is : {r : Written} {number : ℕ} (out : List ℕ) → wrote r [] �
 refused-is out e = ap (λ (o : WriteOutcome). record { number = o .number; length = o .length; bytes = out }) e
 
 module _ (size index : ℕ) (rec : List ℕ) (items : List (List ℕ)) where
-  pub letter-filled : (out : List ℕ) {l₁ l₂ l₃ l₄ l₅ : List ℕ} → 20 + length rec + length (joined items) ≤ length out
+  letter-filled : (out : List ℕ) {l₁ l₂ l₃ l₄ l₅ : List ℕ} → 20 + length rec + length (joined items) ≤ length out
       → l₁ ≡ written 0 (be 8 size) out → l₂ ≡ written 8 (be 8 index) l₁ → l₃ ≡ written 16 (be 4 (length rec)) l₂
       → l₄ ≡ written 20 rec l₃ → l₅ ≡ written (20 + length rec) (joined items) l₄ → l₅ ≡ splice 0 (letterBytes size index rec items) out
   unfolding letterBytes

@@ -1,7 +1,7 @@
 -- Two given lists compared, and the answer settled.
 use mathlib.Core.Path.{ap₂, _∙_}
 use Prim.Native.Nat.{ℕ}
-use Rattle.shape.specs.Differ.{Diff}
+use Rattle.shape.specs.Difference.{Diff}
 use Rattle.finder.specs.Outcome.{settled, compareOutcome}
 use borrow.Author.Needs.{needs}
 use Rattle.finder.proofs.compare.Statement.{statement}

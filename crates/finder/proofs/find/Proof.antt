@@ -1,5 +1,5 @@
 -- Each refusal is the first of its order that applies, part by part; a letter of the right form is compared.
-use mathlib.Core.Path.{_≡_, sym, _∙_}
+use mathlib.Core.Path.{sym, _∙_}
 use mathlib.Core.List.{List}
 use Prim.Native.Nat.{ℕ}
 use native.Mathlib.Omega.{arith}
@@ -11,7 +11,7 @@ use Rattle.log.proofs.Counting.{Counts, counts-leaves, counts-none}
 use Rattle.letter.proofs.Apart.{Apart, apart}
 use Rattle.finder.proofs.Parts.{find-parts}
 use Rattle.finder.proofs.Settled.{refused-as}
-use Rattle.finder.proofs.Formed.{fields-pass, index-inside, formed, refused-fields}
+use Rattle.finder.proofs.Formed.{fields-pass, formed, refused-fields}
 use borrow.Author.Needs.{needs}
 use Rattle.finder.proofs.find.Statement.{statement}
 use Rattle.finder.proofs.find.Tie as tie
@@ -92,7 +92,7 @@ against-requires : tie.Need-against-requires
 against-requires c κs =
     let s = c .before .before .before .before in
     let k = known (counted-at s) in
-    (index-inside (letter s) k (s .before .before .before .take-apart .ensures) (formed-fields s), k .most)
+    (formed-fields s .inside, k .most)
 
 returns-5 : tie.Need-returns-5
 unfolding rootOrder

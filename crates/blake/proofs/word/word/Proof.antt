@@ -1,4 +1,6 @@
 -- The four bytes of a word: each is below 256, so no sum wraps.
+use mathlib.Core.Path.{ap, ap₂}
+use Prim.Native.Nat.{_+_, _*_}
 use Rattle.blake.specs.Blake.{wordAt}
 use borrow.Author.Needs.{needs}
 use Rattle.blake.proofs.word.word.Statement.{statement}
@@ -6,7 +8,13 @@ use Rattle.blake.proofs.word.word.Tie as tie
 
 returns : tie.Need-returns
 unfolding wordAt
-returns c = cc
+returns c =
+    let half = c .before .before .before .before in
+    ap₂ _+_
+    (ap₂ _+_
+    (ap₂ _+_ (half .before .before .wide .ensures .0) (ap (_*_ 256) (half .wide2 .ensures .0)))
+    (ap (_*_ 65536) (c .before .before .wide3 .ensures .0)))
+    (ap (_*_ 16777216) (c .wide4 .ensures .0))
 
 pub word-spec : {M : Type 1} → statement M
 word-spec =

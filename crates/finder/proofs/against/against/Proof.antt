@@ -7,7 +7,7 @@ use Rattle.order.proofs.Laws.{refuses, passes}
 use Rattle.wire.specs.Runs.{differ}
 use Rattle.wire.proofs.Differences.{same-of-differ}
 use Rattle.shape.specs.Tree.{root}
-use Rattle.shape.specs.Differ.{Diff}
+use Rattle.shape.specs.Difference.{Diff}
 use Rattle.letter.specs.Bytes.{digestsFrom}
 use Rattle.letter.specs.Items.{itemCount, treeOf}
 use Rattle.finder.specs.Outcome.{settled, ownRoot, ownOrder}

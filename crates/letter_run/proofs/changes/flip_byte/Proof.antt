@@ -5,10 +5,10 @@ use Rattle.letter_run.proofs.changes.flip_byte.Statement.{statement}
 use Rattle.letter_run.proofs.changes.flip_byte.Tie as tie
 
 abbrev Inv-loop : tie.InvT-loop
-Inv-loop size root letter₀ n at counts₀ bits i₀ letter counts i = i ≤ 8
+Inv-loop size root letter n at counts₀ bits i₀ counts i = i ≤ 8
 
 abbrev μ-loop : tie.MeasureT-loop
-μ-loop size root letter₀ n at counts₀ bits i₀ letter counts i = 8 - i
+μ-loop size root letter n at counts₀ bits i₀ counts i = 8 - i
 
 pub flip-byte-spec : {M : Type 1} → statement M
 flip-byte-spec =

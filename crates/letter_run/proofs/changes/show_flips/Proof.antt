@@ -5,10 +5,10 @@ use Rattle.letter_run.proofs.changes.show_flips.Statement.{statement}
 use Rattle.letter_run.proofs.changes.show_flips.Tie as tie
 
 abbrev Inv-loop : tie.InvT-loop
-Inv-loop size root letter₀ n counts₀ at₀ t7 letter counts at = at ≤ n
+Inv-loop size root letter n counts₀ at₀ t7 counts at = at ≤ n
 
 abbrev μ-loop : tie.MeasureT-loop
-μ-loop size root letter₀ n counts₀ at₀ t7 letter counts at = n - at
+μ-loop size root letter n counts₀ at₀ t7 counts at = n - at
 
 pub show-flips-spec : {M : Type 1} → statement M
 show-flips-spec =

@@ -1,4 +1,4 @@
--- `runs::lines::say_numbers` is safe and ends: the loop runs over the slice.
+-- `runs::lines::say_numbers` meets its contract: the loop runs over the slice.
 use Prim.Native.Nat.{_-_, _≤_}
 use lib.ListN.{length}
 use borrow.Author.Needs.{needs}

@@ -17,16 +17,16 @@ whether (no p) a b = b
 -- nothing differs; or the two strings that differ first
 pub data Diff : Type 0 where
   agree : Diff
-  pair : List ℕ → List ℕ → Diff
+  unequal : List ℕ → List ℕ → Diff
 
 -- the first difference of two lists of one length
-unfoldable pub differ : List (List ℕ) → List (List ℕ) → Diff
-differ [] ys = agree
-differ (x ∷ xs) [] = agree
-differ (x ∷ xs) (y ∷ ys) = whether (decided x y) (differ xs ys) (pair x y)
+unfoldable pub difference : List (List ℕ) → List (List ℕ) → Diff
+difference [] ys = agree
+difference (x ∷ xs) [] = agree
+difference (x ∷ xs) (y ∷ ys) = whether (decided x y) (difference xs ys) (unequal x y)
 
 module _ (digest : List ℕ → List ℕ) where
   -- what a comparison shows: P where nothing differs, and otherwise two different strings with one digest
   abbrev pub Shown : Type 0 → Diff → Type 0
   Shown P agree = P
-  Shown P (pair a b) = (a ≢ b) × (digest a ≡ digest b)
+  Shown P (unequal a b) = (a ≢ b) × (digest a ≡ digest b)

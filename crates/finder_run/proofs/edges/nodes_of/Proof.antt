@@ -1,8 +1,8 @@
--- `finder_run::edges::show_all` is safe and ends: the loop runs over the seven records.
+-- `finder_run::edges::nodes_of` is safe and ends: the loop runs over the seven records.
 use Prim.Native.Nat.{_-_, _≤_}
 use borrow.Author.Needs.{needs}
-use Rattle.finder_run.proofs.edges.show_all.Statement.{statement}
-use Rattle.finder_run.proofs.edges.show_all.Tie as tie
+use Rattle.finder_run.proofs.edges.nodes_of.Statement.{statement}
+use Rattle.finder_run.proofs.edges.nodes_of.Tie as tie
 
 abbrev Inv-loop : tie.InvT-loop
 Inv-loop nodes₀ size₀ k₀ nodes size k = k ≤ 7
@@ -10,8 +10,8 @@ Inv-loop nodes₀ size₀ k₀ nodes size k = k ≤ 7
 abbrev μ-loop : tie.MeasureT-loop
 μ-loop nodes₀ size₀ k₀ nodes size k = 7 - k
 
-pub show-all-spec : {M : Type 1} → statement M
-show-all-spec =
+pub nodes-of-spec : {M : Type 1} → statement M
+nodes-of-spec =
     tie.close
     (tie.spec
     Inv-loop
@@ -21,7 +21,4 @@ show-all-spec =
     (λ c. search needs)
     (λ c. search needs)
     (λ c. search needs)
-    (λ c. search needs)
-    (λ c κs. search needs)
-    (λ c κs. search needs)
     (λ c. search needs))

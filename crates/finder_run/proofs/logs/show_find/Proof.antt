@@ -1,10 +1,10 @@
--- `finder_run::edges::show_find` is safe: the parts that it lends lie within the buffers.
+-- `finder_run::logs::show_find` is safe: the parts that it lends lie within the buffers.
 use mathlib.Core.Path.{sym}
 use native.Mathlib.Omega.{arith}
 use lib.Seq.{length-take-le}
 use borrow.Author.Needs.{needs}
-use Rattle.finder_run.proofs.edges.show_find.Statement.{statement}
-use Rattle.finder_run.proofs.edges.show_find.Tie as tie
+use Rattle.finder_run.proofs.logs.show_find.Statement.{statement}
+use Rattle.finder_run.proofs.logs.show_find.Tie as tie
 
 slice-aggregate-find : tie.Need-slice-aggregate-find
 slice-aggregate-find c = sym (length-take-le _ _ (omega arith))
@@ -18,6 +18,8 @@ show-find-spec =
     (tie.spec
     (λ c κs. search needs)
     (λ c κs. search needs)
+    (λ c κs. search needs)
+    (λ c κs. search needs)
     (λ c. search needs)
     slice-aggregate-find
     (λ c. search needs)
@@ -25,6 +27,5 @@ show-find-spec =
     (λ c κs. search needs)
     (λ c κs. search needs)
     (λ c κs. search needs)
-    (λ c. search needs)
     (λ c κs. search needs)
     (λ c. search needs))
