@@ -45,7 +45,9 @@ module _ (bs : List ℕ) (p : ℕ) (rule : LargestPowerBelow (chunks bs) p) wher
   right-short =
       let e : 2 ^ suc (rule .exponent) ≡ 2 ^ rule .exponent * 2 = pow-suc 2 (rule .exponent) in
       by-cases (decLt (2 ^ suc (rule .exponent)) (chunks bs))
-      (λ l. let m : 2 ^ suc (rule .exponent) ≤ p = rule .largest (suc (rule .exponent)) l in let q : 1 ≤ 2 ^ rule .exponent = pow-pos (rule .exponent) in omega (arith, rule .power))
+      (λ l.
+      let m : 2 ^ suc (rule .exponent) ≤ p = rule .largest (suc (rule .exponent)) l in
+      omega (arith, rule .power, pow-pos (rule .exponent)))
       (λ l. omega (arith, rule .power))
 
   left-whole : length (take (1024 * p) bs) ≡ 1024 * p

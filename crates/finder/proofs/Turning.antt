@@ -3,17 +3,16 @@
 use mathlib.Core.Path.{_≡_, refl, sym, ap, _∙_, subst}
 use mathlib.Core.List.{List}
 use Prim.Native.Nat.{ℕ, zero, suc, _+_, _-_, _*_, _%_, _^_, _≤_, _<_}
-use native.Mathlib.Nat.{pow-suc}
 use native.Mathlib.Omega.{arith}
 use lib.ListN.{length}
-use lib.Pow.{pow-pos, pow-mono}
+use lib.Pow.{pow-mono}
 use Rattle.digest.specs.Digest.{digestOf}
 use Rattle.shape.specs.Tree.{left, right, past}
 use Rattle.shape.specs.Letter.{wayIn}
 use Rattle.shape.specs.Positions.{top, behind, peaksIn, fold}
 use Rattle.shape.specs.Difference.{agree, difference}
 use Rattle.shape.specs.Seen.{seenIn}
-use Rattle.shape.proofs.Powers.{power-small}
+use Rattle.shape.proofs.Powers.{Halved, halved}
 use Rattle.shape.proofs.Ways.{way-low, way-left, way-right, way-past, way-most}
 use Rattle.shape.proofs.Peaks.{peaks-low, peaks-full}
 use Rattle.shape.proofs.Seen.{seen-low, seen-left, seen-right}
@@ -35,20 +34,14 @@ pub record Above (h n i s from half : ℕ) : Type 0 where
   pub fits : Walkable h n i s from
 
 module _ {h n i s from half : ℕ} (f : Above h n i s from half) where
-  half-is : half ≡ 2 ^ (h - 1)
-  half-is = f .power ∙ power-small 64 (h - 1) (omega (arith, f .fits .low))
-
-  height-below : suc (h - 1) ≡ h
-  height-below = omega (arith, f .some)
-
-  double : 2 ^ h ≡ 2 * half
-  double = ap (λ (k : ℕ). 2 ^ k) (sym height-below) ∙ pow-suc 2 (h - 1) ∙ omega (arith, half-is)
+  halves : Halved h half
+  halves = halved h half (omega (arith, f .some)) (omega (arith, f .fits .low)) (f .power)
 
   pub half-bounds : (0 < half) × (half ≤ 2 ^ 32) × (s + 4 * half ≤ 2 ^ 34)
   half-bounds = (
-    omega (arith, half-is, pow-pos (h - 1)),
-    omega (arith, half-is, pow-mono {i = h - 1} {j = 32} (omega (arith, f .fits .low))),
-    omega (arith, double, f .fits .near),
+    halves .some,
+    omega (arith, halves .is, pow-mono {i = h - 1} {j = 32} (omega (arith, f .fits .low))),
+    omega (arith, halves .whole, f .fits .near),
   )
 
   pub low-room : n ≤ half → Walkable (h - 1) n i s from
@@ -56,8 +49,8 @@ module _ {h n i s from half : ℕ} (f : Above h n i s from half) where
       record {
         low = omega (arith, f .fits .low);
         inside = f .fits .inside;
-        most = omega (arith, half-is);
-        near = omega (arith, half-is, double, f .fits .near);
+        most = omega (arith, halves .is);
+        near = omega (arith, halves, f .fits .near);
         few = omega (arith, f .fits .few);
       }
 
@@ -66,8 +59,8 @@ module _ {h n i s from half : ℕ} (f : Above h n i s from half) where
       record {
         low = omega (arith, f .fits .low);
         inside = p;
-        most = omega (arith, half-is);
-        near = omega (arith, half-is, double, f .fits .near);
+        most = omega (arith, halves .is);
+        near = omega (arith, halves, f .fits .near);
         few = omega (arith, f .fits .few);
       }
 
@@ -77,8 +70,8 @@ module _ {h n i s from half : ℕ} (f : Above h n i s from half) where
       record {
         low = omega (arith, f .fits .low);
         inside = omega (arith, f .fits .inside);
-        most = omega (arith, half-is, double, f .fits .most);
-        near = omega (arith, half-is, double, f .fits .near);
+        most = omega (arith, halves, f .fits .most);
+        near = omega (arith, halves, f .fits .near);
         few = omega (arith, f .fits .few, f .some);
       }
 
@@ -95,7 +88,7 @@ module _ {h n i s from half : ℕ} (f : Above h n i s from half) where
 -- a law of g, h and half that holds at g, one above it, and 2 ^ g holds as the code has them
 pub as-coded : {h n i s from half : ℕ} → Above h n i s from half → (S : ℕ → ℕ → ℕ → Type 0) → ((g : ℕ) → S g (suc g) (2 ^ g)) → S (h - 1) h half
 as-coded {h = h} {half = half} f S law =
-    subst (λ (k : ℕ). S (h - 1) k half) (height-below f) (subst (λ (x : ℕ). S (h - 1) (suc (h - 1)) x) (sym (half-is f)) (law (h - 1)))
+    subst (λ (k : ℕ). S (h - 1) k half) (sym (halves f .below)) (subst (λ (x : ℕ). S (h - 1) (suc (h - 1)) x) (sym (halves f .is)) (law (h - 1)))
 
 module _ (bs items leaf : List ℕ) (n i s from : ℕ) (low w : Trail) (ours theirs : Input) where
   -- a fork of half leaves and the rest

@@ -3,16 +3,14 @@
 use mathlib.Core.Path.{_≡_, refl, sym, ap, ap₂, _∙_}
 use mathlib.Core.List.{List, [], _∷_, _++_, map, map-append}
 use Prim.Native.Nat.{ℕ, suc, _+_, _-_, _*_, _%_, _^_, _≤_, _<_}
-use native.Mathlib.Nat.{pow-suc}
 use native.Mathlib.Omega.{arith}
 use lib.ListN.{length, length-append, length-map}
-use lib.Pow.{pow-pos}
 use Rattle.digest.specs.Digest.{digestOf, digest-length}
 use Rattle.wire.specs.Runs.{splice, written}
 use Rattle.wire.proofs.Splices.{splice-none, splice-length, splice-splice, written-fits, written-next}
 use Rattle.shape.specs.Tree.{Each}
 use Rattle.shape.specs.Positions.{top, behind, peaksIn, alone, positionsIn, fold}
-use Rattle.shape.proofs.Powers.{power-small}
+use Rattle.shape.proofs.Powers.{Halved, halved}
 use Rattle.shape.proofs.Peaks.{peaks-some}
 use Rattle.shape.proofs.Positions.{positions-one, positions-low, positions-left, positions-right, positions-past}
 use Rattle.log.specs.Nodes.{nodeIn, foldFrom, joined}
@@ -57,38 +55,31 @@ pub record Above (h n i s at room half : ℕ) : Type 0 where
   pub fits : Room h n i s at room
 
 module _ {h n i s at room half : ℕ} (f : Above h n i s at room half) where
-  half-is : half ≡ 2 ^ (h - 1)
-  half-is = f .power ∙ power-small 64 (h - 1) (omega (arith, f .fits .0))
-
-  -- the height below, as the definitions count
-  height-below : h ≡ suc (h - 1)
-  height-below = omega (arith, f .some)
-
-  double : 2 ^ h ≡ 2 * half
-  double = ap (λ (k : ℕ). 2 ^ k) height-below ∙ omega (arith, pow-suc 2 (h - 1), half-is)
+  halves : Halved h half
+  halves = halved h half (omega (arith, f .some)) (omega (arith, f .fits .0)) (f .power)
 
   pub half-bounds : (0 < half) × (s + 4 * half ≤ 2 ^ 34)
-  half-bounds = (omega (arith, half-is, pow-pos (h - 1)), omega (arith, double, f .fits .3))
+  half-bounds = (halves .some, omega (arith, halves .whole, f .fits .3))
 
   -- what the positions are at the height below
   positions-at : {ps : List (List ℕ)} → positionsIn (suc (suc (h - 1))) n i s ≡ ps → positionsIn (suc h) n i s ≡ ps
-  positions-at e = ap (λ (k : ℕ). positionsIn (suc k) n i s) height-below ∙ e
+  positions-at e = ap (λ (k : ℕ). positionsIn (suc k) n i s) (halves .below) ∙ e
 
   mid-is : behind (h - 1) s ≡ middle s half
-  mid-is = omega (arith, pow-suc 2 (h - 1), half-is)
+  mid-is = omega (arith, halves .double)
 
   top-is : top (h - 1) s ≡ middle s half - 1
-  top-is = omega (arith, pow-suc 2 (h - 1), half-is, half-bounds .0)
+  top-is = omega (arith, halves .double, half-bounds .0)
 
   -- ---- all leaves at the height below
 
   module _ (q : n ≤ half) where
     low-same : positionsIn (suc h) n i s ≡ positionsIn (suc (h - 1)) n i s
-    low-same = positions-at (positions-low (h - 1) n i s (omega (arith, half-is)))
+    low-same = positions-at (positions-low (h - 1) n i s (omega (arith, halves .is)))
 
     pub low-room : Room (h - 1) n i s at room
     low-room =
-        (omega (arith, f .fits .0), f .fits .1, omega (arith, half-is), omega (arith, double, half-is, f .fits .3), rw low-same at (f .fits .4))
+        (omega (arith, f .fits .0), f .fits .1, omega (arith, halves .is), omega (arith, halves, f .fits .3), rw low-same at (f .fits .4))
 
     pub low-put : (bs d : List ℕ) {next : ℕ} {last : List ℕ} → Put bs (h - 1) n i s at d next last → Put bs h n i s at d next last
     low-put bs d p = rw low-same p
@@ -115,7 +106,7 @@ module _ {h n i s at room half : ℕ} (f : Above h n i s at room half) where
   module _ (q : half < n) where
     -- the leaves to the right
     rest-few : (n - half ≤ half) × (0 < n - half)
-    rest-few = (omega (arith, double, f .fits .2), omega arith)
+    rest-few = (omega (arith, halves .whole, f .fits .2), omega arith)
 
     -- ---- to the left
 
@@ -123,8 +114,8 @@ module _ {h n i s at room half : ℕ} (f : Above h n i s at room half) where
       left-same : positionsIn (suc h) n i s ≡ positionsIn (suc (h - 1)) half i s ++ (peaksIn (suc (h - 1)) (n - half) (middle s half) ∷ [])
       left-same =
           positions-at
-          (positions-left (h - 1) n i s (omega (arith, half-is)) (omega (arith, pow-suc 2 (h - 1), half-is, rest-few)) (omega (arith, half-is)))
-          ∙ ap₂ {C = List (List ℕ)} (λ (x y : ℕ). positionsIn (suc (h - 1)) x i s ++ (peaksIn (suc (h - 1)) (n - x) y ∷ [])) (sym half-is) mid-is
+          (positions-left (h - 1) n i s (omega (arith, halves .is)) (omega (arith, halves .double, rest-few)) (omega (arith, halves .is)))
+          ∙ ap₂ {C = List (List ℕ)} (λ (x y : ℕ). positionsIn (suc (h - 1)) x i s ++ (peaksIn (suc (h - 1)) (n - x) y ∷ [])) (sym (halves .is)) mid-is
 
       left-more : length (positionsIn (suc h) n i s) ≡ suc (length (positionsIn (suc (h - 1)) half i s))
       left-more =
@@ -133,19 +124,19 @@ module _ {h n i s at room half : ℕ} (f : Above h n i s at room half) where
 
       pub left-room : Room (h - 1) half i s at room
       left-room =
-          (omega (arith, f .fits .0), l, omega (arith, half-is), omega (arith, double, half-is, f .fits .3), omega (arith, left-more, f .fits .4))
+          (omega (arith, f .fits .0), l, omega (arith, halves .is), omega (arith, halves, f .fits .3), omega (arith, left-more, f .fits .4))
 
       pub left-put : (bs d : List ℕ) {next : ℕ} {side before last : List ℕ} → length d ≡ room → Put bs (h - 1) half i s at d next before
           → side ≡ foldFrom digestOf bs (n - half) (middle s half) → last ≡ written next side before → Put bs h n i s at d (next + 32) last
       left-put bs d {side = side} long p es el =
           let ps : List ℕ = peaksIn (suc (h - 1)) (n - half) (middle s half) in
           let e : side ≡ fold digestOf (nodeIn bs) ps =
-          es ∙ from-any digestOf bs (n - half) (middle s half) (h - 1) (omega (arith, half-is, rest-few)) (rest-few .1)
+          es ∙ from-any digestOf bs (n - half) (middle s half) (h - 1) (omega (arith, halves .is, rest-few)) (rest-few .1)
           (omega (arith, rest-few, half-bounds)) (omega (arith, half-bounds)) in
           let some : 0 < length ps =
-          peaks-some (suc (h - 1)) (n - half) (middle s half) (rest-few .1) (omega (arith, rest-few, half-is, pow-suc 2 (h - 1), half-bounds)) in
+          peaks-some (suc (h - 1)) (n - half) (middle s half) (rest-few .1) (omega (arith, rest-few, halves .double, half-bounds)) in
           put-behind bs d (positionsIn (suc (h - 1)) half i s) ps long left-same
-          (from-each digestOf bs digest-length (h - 1) half i s l (omega (arith, half-is)))
+          (from-each digestOf bs digest-length (h - 1) half i s l (omega (arith, halves .is)))
           (ap length e ∙ fold-length digestOf bs digest-length ps some) (p .0) (p .1) e el
 
     -- ---- to the right
@@ -154,20 +145,20 @@ module _ {h n i s at room half : ℕ} (f : Above h n i s at room half) where
       right-room : (from : ℕ) → from + 32 * length (toRight h n i s half) ≤ room
           → Room (h - 1) (n - half) (i - half) (middle s half) from room
       right-room from k =
-          let near : middle s half + 2 * 2 ^ (h - 1) ≤ 2 ^ 34 = omega (arith, half-is, half-bounds) in
-          (omega (arith, f .fits .0), omega (arith, f .fits .1), omega (arith, half-is, rest-few), near, k)
+          let near : middle s half + 2 * 2 ^ (h - 1) ≤ 2 ^ 34 = omega (arith, halves .is, half-bounds) in
+          (omega (arith, f .fits .0), omega (arith, f .fits .1), omega (arith, halves .is, rest-few), near, k)
 
       right-each : (bs : List ℕ) → Each 32 (itemsFrom digestOf bs (h - 1) (n - half) (i - half) (middle s half))
       right-each bs =
           from-each digestOf bs digest-length (h - 1) (n - half) (i - half) (middle s half)
-          (omega (arith, f .fits .1)) (omega (arith, half-is, rest-few))
+          (omega (arith, f .fits .1)) (omega (arith, halves .is, rest-few))
 
       -- within a peak
       module _ (z : n - half ≡ half) where
         within-same : positionsIn (suc h) n i s ≡ toRight h n i s half ++ (alone (middle s half - 1) ∷ [])
         within-same =
-            positions-at (positions-right (h - 1) n i s (omega (arith, pow-suc 2 (h - 1), half-is)) (omega (arith, half-is)) (f .fits .1))
-            ∙ ap₂ {C = List (List ℕ)} (λ (x y : ℕ). positionsIn (suc (h - 1)) (n - x) (i - x) y ++ (alone (top (h - 1) s) ∷ [])) (sym half-is) mid-is
+            positions-at (positions-right (h - 1) n i s (omega (arith, halves .double)) (omega (arith, halves .is)) (f .fits .1))
+            ∙ ap₂ {C = List (List ℕ)} (λ (x y : ℕ). positionsIn (suc (h - 1)) (n - x) (i - x) y ++ (alone (top (h - 1) s) ∷ [])) (sym (halves .is)) mid-is
             ∙ ap {B = List (List ℕ)} (λ (x : ℕ). toRight h n i s half ++ (alone x ∷ [])) top-is
 
         pub within-room : Room (h - 1) (n - half) (i - half) (middle s half) at room
@@ -185,12 +176,12 @@ module _ {h n i s at room half : ℕ} (f : Above h n i s at room half) where
       module _ (z : n - half ≡ half → ⊥) where
         past-same : positionsIn (suc h) n i s ≡ alone (middle s half - 1) ∷ toRight h n i s half
         past-same =
-            positions-at (positions-past (h - 1) n i s (omega (arith, half-is)) (past-fewer (rest-few .0)) (omega (arith, half-is)))
-            ∙ ap₂ {C = List (List ℕ)} (λ (x y : ℕ). alone (top (h - 1) s) ∷ positionsIn (suc (h - 1)) (n - x) (i - x) y) (sym half-is) mid-is
+            positions-at (positions-past (h - 1) n i s (omega (arith, halves .is)) (past-fewer (rest-few .0)) (omega (arith, halves .is)))
+            ∙ ap₂ {C = List (List ℕ)} (λ (x y : ℕ). alone (top (h - 1) s) ∷ positionsIn (suc (h - 1)) (n - x) (i - x) y) (sym (halves .is)) mid-is
             ∙ ap {B = List (List ℕ)} (λ (x : ℕ). alone x ∷ toRight h n i s half) top-is
           where
             past-fewer : n - half ≤ half → n < 2 ^ suc (h - 1)
-            past-fewer k = omega (arith, pow-suc 2 (h - 1), half-is, z)
+            past-fewer k = omega (arith, halves .double, z)
 
         pub past-next : at + 32 ≤ room
         past-next = omega (arith, ap length past-same, f .fits .4)

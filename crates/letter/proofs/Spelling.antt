@@ -92,4 +92,14 @@ spelt k letter b exact =
     let j : part 0 (20 + s) letter ++ part (20 + s) (32 * k) letter ≡ letter =
     ap (λ (at : ℕ). part 0 (20 + s) letter ++ part at (32 * k) letter) (sym (zero-add (20 + s)))
     ∙ sym (part-add 0 (20 + s) (32 * k) letter) ∙ ap (λ (m : ℕ). part 0 m letter) (sym exact) ∙ part-whole letter in
-    sym (rw (be-part 0 8 letter b, be-part 8 8 letter b, n, stated-bytes letter b, joined-part (20 + s) k letter, ← part-add 0 8 8 letter, ← part-add 0 16 4 letter, ← part-add 0 20 s letter) j)
+    sym (rw (
+      be-part 0 8 letter b,
+      be-part 8 8 letter b,
+      n,
+      stated-bytes letter b,
+      joined-part
+          (20 + s) k letter,
+      ← part-add 0 8 8 letter,
+      ← part-add 0 16 4 letter,
+      ← part-add 0 20 s letter,
+    ) j)

@@ -73,7 +73,8 @@ module _ (rs : List (List ℕ)) (r bs : List ℕ) (few : length rs < 2 ^ 32) (b 
       ≡ nodesOf (rs ++ (r ∷ [])) ++ drop (32 * sizeOf (suc (length rs))) bs
   unfolding splice
   grown =
-      let e : 32 * sizeOf (length rs) + length (joined (newNodes digestOf (nodeIn bs) (leaves (sizeOf (length rs))) (digestOf r))) ≡ 32 * sizeOf (suc (length rs)) =
+      let e : 32 * sizeOf (length rs) + length (joined (newNodes digestOf (nodeIn bs) (leaves (sizeOf (length rs))) (digestOf r)))
+      ≡ 32 * sizeOf (suc (length rs)) =
       omega (arith, new-bytes, size-suc (length rs)) in
       ap₂ (λ (x : List ℕ) (at : ℕ). x ++ joined (newNodes digestOf (nodeIn bs) (leaves (sizeOf (length rs))) (digestOf r)) ++ drop at bs) b e
       ∙ ap (λ (x : List ℕ). x ++ drop (32 * sizeOf (suc (length rs))) bs) old-and-new
@@ -104,4 +105,9 @@ root-of-log rs bs some few b =
     let long = begins-long rs bs b in
     let n : leaves (sizeOf (length rs)) ≡ length (map digestOf rs) = c .value ∙ sym (length-map rs digestOf) in
     sym (passes _ _ _ {r = rootDone (sizeOf (length rs)) bs} refl (search needs))
-    ∙ (λ i. record { number = 0; digest = (ap (λ (x : ℕ). fold digestOf (nodeIn bs) (peaks x)) n ∙ root-read digestOf (nodeIn bs) (map digestOf rs) (omega (arith, length-map rs digestOf)) (begins-hold rs bs b)) i })
+    ∙ (λ i. record {
+      number = 0;
+      digest =
+          (ap (λ (x : ℕ). fold digestOf (nodeIn bs) (peaks x)) n
+          ∙ root-read digestOf (nodeIn bs) (map digestOf rs) (omega (arith, length-map rs digestOf)) (begins-hold rs bs b)) i;
+    })

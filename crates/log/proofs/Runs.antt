@@ -56,7 +56,12 @@ module _ (bs : List ℕ) (s : State) (g : Sound bs s) (r : List ℕ) where
   sound-taken few short room =
       let ns = nodesOf (s .taken ++ (r ∷ [])) in
       let at = 32 * sizeOf (suc (length (s .taken))) in
-      let o : AppendOutcome = record { number = 0; size = sizeOf (suc (length (s .taken))); count = hashCount (length (s .taken)); bytes = ns ++ drop at (s .bytes) } in
+      let o : AppendOutcome = record {
+        number = 0;
+        size = sizeOf (suc (length (s .taken)));
+        count = hashCount (length (s .taken));
+        bytes = ns ++ drop at (s .bytes);
+      } in
       let e : appendOutcome (s .size) r (s .bytes) ≡ o =
       ap (λ (x : ℕ). appendOutcome x r (s .bytes)) (g .size) ∙ append-grows (s .taken) r (s .bytes) few (g .begins) short room in
       let st = step-taken s r o e refl in
@@ -82,7 +87,8 @@ module _ (bs : List ℕ) (s : State) (g : Sound bs s) (r : List ℕ) where
   sound-left : appendOutcome (s .size) r (s .bytes) .number ≢ 0 → Sound bs (step s r)
   unfolding appendOutcome appendDone
   sound-left z =
-      let e = refusal (λ (x : AppendOutcome). x .number) (appendRefused (s .size) (s .bytes)) (appendOrder (s .size) r (s .bytes)) (appendDone (s .size) r (s .bytes))
+      let e = refusal (λ (x : AppendOutcome). x .number) (appendRefused (s .size) (s .bytes)) (appendOrder (s .size) r (s .bytes))
+      (appendDone (s .size) r (s .bytes))
       (λ m. refl) refl {r = appendOutcome (s .size) r (s .bytes)} refl z in
       subst (λ (x : State). Sound bs x)
       (sym (step-left s r (appendRefused (s .size) (s .bytes) (appendOutcome (s .size) r (s .bytes) .number)) e z)) g
@@ -91,7 +97,8 @@ module _ (bs : List ℕ) (s : State) (g : Sound bs s) (r : List ℕ) where
   sound-done : appendOutcome (s .size) r (s .bytes) .number ≡ 0 → Sound bs (step s r)
   unfolding appendOutcome appendOrder appendDone
   sound-done z =
-      let a = accepted (λ (x : AppendOutcome). x .number) (appendRefused (s .size) (s .bytes)) (appendOrder (s .size) r (s .bytes)) (appendDone (s .size) r (s .bytes))
+      let a = accepted (λ (x : AppendOutcome). x .number) (appendRefused (s .size) (s .bytes)) (appendOrder (s .size) r (s .bytes))
+      (appendDone (s .size) r (s .bytes))
       (λ m. refl) refl {r = appendOutcome (s .size) r (s .bytes)} refl tt z .0 in
       let k = counts-size (length (s .taken)) (g .few) in
       let v : leaves (s .size) ≡ length (s .taken) = ap leaves (g .size) ∙ k .value in

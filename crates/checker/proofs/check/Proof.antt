@@ -23,7 +23,8 @@ known c = counts-leaves (c .before .before .before .leaf-count .ensures) (c .bef
 returns : tie.Need-returns
 unfolding checkOutcome checkOrder from7 fieldsOrder
 returns c =
-    let k = counts-none (c .before .before .before .before .before .before .args .size) (c .before .before .before .leaf-count .ensures) (c .before .enum-told .given .1) in
+    let k = counts-none (c .before .before .before .before .before .before .args .size) (c .before .before .before .leaf-count .ensures)
+    (c .before .enum-told .given .1) in
     refuses 1 _ _ _ (c .not-checked .ensures) (search needs)
 
 returns-2 : tie.Need-returns-2
@@ -52,7 +53,8 @@ returns-3 : tie.Need-returns-3
 returns-3 c = refused (c .before .before .before) (c .before .if2 .taken) (c .not-checked3 .ensures)
 
 -- its fields, where nothing refuses
-taken : (c : tie.After-struct-known2) → Apart (size (c .before .before .before)) (leaves (size (c .before .before .before))) (bytes (c .before .before .before)) (fielded (c .before .before .before))
+taken : (c : tie.After-struct-known2) → Apart (size (c .before .before .before)) (leaves (size (c .before .before .before)))
+    (bytes (c .before .before .before)) (fielded (c .before .before .before))
 taken c = apart _ _ _ (fielded (c .before .before .before)) (c .before .if2 .left)
 
 add-start : tie.Need-add-start
@@ -82,7 +84,8 @@ returns-4 : tie.Need-returns-4
 returns-4 c =
     let r = c .before .before .before .before .before in
     let p = apart-place r in
-    root-refuses digestOf (size p) (trusted p) (bytes p) (known (p .before .before) .number) (p .before .if1 .left) (fielded p) (taken (r .before .before .before))
+    root-refuses digestOf (size p) (trusted p) (bytes p) (known (p .before .before) .number) (p .before .if1 .left) (fielded p)
+    (taken (r .before .before .before))
     (worked r) (λ z. omega (arith, c .before .if3 .taken, c .before .before .differ .ensures, z)) (c .not-checked4 .ensures)
 
 returns-5 : tie.Need-returns-5

@@ -11,7 +11,8 @@ returns c = let a = c .before .before .before .args in digest-short (a .bytes .n
 returns-2 : tie.Need-returns-2
 returns-2 c =
     let a = c .before .before .before .before .before .before .before .before .before .args in
-    digest-done (a .bytes .now) (a .out .now) _ _ (c .before .before .before .before .before .digest-of .ensures) (omega arith) (c .before .before .write-digest .ensures)
+    digest-done (a .bytes .now) (a .out .now) _ _ (c .before .before .before .before .before .digest-of .ensures) (omega arith)
+    (c .before .before .write-digest .ensures)
 
 pub keeper-digest-spec : {M : Type 1} → statement M
 keeper-digest-spec =

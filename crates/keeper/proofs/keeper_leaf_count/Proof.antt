@@ -15,7 +15,8 @@ returns c =
 returns-2 : tie.Need-returns-2
 unfolding over
 returns-2 c =
-    ap (over (now (c .before .before .before .before .args .leaves))) (sym (ap counted (c .before .c .given .1)) ∙ c .before .before .before .leaf-count .ensures)
+    ap (over (now (c .before .before .before .before .args .leaves)))
+    (sym (ap counted (c .before .c .given .1)) ∙ c .before .before .before .leaf-count .ensures)
 
 pub keeper-leaf-count-spec : {M : Type 1} → statement M
 keeper-leaf-count-spec =

@@ -15,7 +15,8 @@ returns c =
 returns-2 : tie.Need-returns-2
 unfolding over
 returns-2 c =
-    ap (over (now (c .before .before .before .before .args .position))) (sym (ap placed (c .before .p .given .1)) ∙ c .before .before .before .leaf-position .ensures)
+    ap (over (now (c .before .before .before .before .args .position)))
+    (sym (ap placed (c .before .p .given .1)) ∙ c .before .before .before .leaf-position .ensures)
 
 pub keeper-leaf-position-spec : {M : Type 1} → statement M
 keeper-leaf-position-spec =

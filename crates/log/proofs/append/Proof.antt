@@ -86,7 +86,8 @@ same-length c =
     let a = c .before .before .before .before .before .before .before .before .before .before .before .before .before .before .before .before .args in
     let k = known (c .before .before .before .before .before .before .before .before .before .before) in
     let e = c .before .before .before .before .before .before .before .merges .ensures in
-    ap length (new-bytes (a .rec .now) (a .nodes .now) k e (omega arith) (c .before .before .before .before .lefts .ensures) (c .before .before .write-new .ensures) refl)
+    ap length (new-bytes (a .rec .now) (a .nodes .now) k e (omega arith) (c .before .before .before .before .lefts .ensures)
+    (c .before .before .write-new .ensures) refl)
     ∙ new-fits (a .rec .now) (a .nodes .now) k e (omega arith)
 
 returns-5 : tie.Need-returns-5
@@ -96,7 +97,8 @@ returns-5 c =
     let k = known (c .before .before .before .before .before .before .before .before .before .before) in
     let m = c .before .before .before .before .before .before .before .merges in
     let g : sizeOf (suc (leaves (a .size))) ≡ a .size + (1 + m .result) = grown-size k (m .ensures) in
-    let w = new-bytes (a .rec .now) (a .nodes .now) k (m .ensures) (omega arith) (c .before .before .before .before .lefts .ensures) (c .before .before .write-new .ensures) refl in
+    let w = new-bytes (a .rec .now) (a .nodes .now) k (m .ensures) (omega arith) (c .before .before .before .before .lefts .ensures)
+    (c .before .before .write-new .ensures) refl in
     passes _ _ _ (append-done (a .rec .now) (a .nodes .now) k (m .ensures) (omega arith) refl refl refl w) (search needs)
 
 pub append-spec : {M : Type 1} → statement M

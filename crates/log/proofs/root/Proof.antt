@@ -17,7 +17,8 @@ known c = counts-leaves (c .before .before .before .leaf-count .ensures) (c .bef
 returns : tie.Need-returns
 unfolding rootOutcome rootOrder
 returns c =
-    let k = counts-none (c .before .before .before .before .before .args .size) (c .before .before .before .leaf-count .ensures) (c .before .enum-told .given .1) in
+    let k = counts-none (c .before .before .before .before .before .args .size) (c .before .before .before .leaf-count .ensures)
+    (c .before .enum-told .given .1) in
     refuses 1 _ _ _ (ap rooted (c .not-rooted .ensures)) (search needs)
 
 returns-2 : tie.Need-returns-2

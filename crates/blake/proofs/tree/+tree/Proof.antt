@@ -63,14 +63,18 @@ pub +tree-spec : {M : Type 1} → statement M
     (λ c κs.
     let start = c .before .before .before .before .before in
     let k = start .args in
-    let p = c .before .power in
-    (omega arith, room-short (k .h) (k .flag) (k .root) (k .n) (p .result) (k .bytes .now) (c .before .before .before .if1 .left) (p .ensures .0) (start .pre .1) (c .if4 .taken)))
+    let p = c .before .power in (
+      omega arith,
+      room-short (k .h) (k .flag) (k .root) (k .n) (p .result) (k .bytes .now) (c .before .before .before .if1 .left) (p .ensures .0)
+          (start .pre .1) (c .if4 .taken),
+    ))
     (λ c.
     let start = c .before .before .before .before .before .before in
     let k = start .args in
     let p = c .before .before .power in
     c .tree .ensures
-    ∙ fits-short (k .h) (k .flag) (k .root) (k .n) (p .result) (k .bytes .now) (c .before .before .before .before .if1 .left) (p .ensures .0) (start .pre .1) (k .key) (c .before .if4 .taken))
+    ∙ fits-short (k .h) (k .flag) (k .root) (k .n) (p .result) (k .bytes .now) (c .before .before .before .before .if1 .left) (p .ensures .0)
+    (start .pre .1) (k .key) (c .before .if4 .taken))
     -- the left side
     (λ c.
     let k = c .before .before .before .before .before .before .args in
@@ -79,8 +83,11 @@ pub +tree-spec : {M : Type 1} → statement M
     (λ c κs.
     let start = c .before .before .before .before .before .before in
     let k = start .args in
-    let p = c .before .before .power in
-    (omega arith, room-left (k .h) (k .flag) (k .root) (k .n) (p .result) (k .bytes .now) (c .before .before .before .before .if1 .left) (p .ensures .0) (start .pre .1) (c .before .if4 .left)))
+    let p = c .before .before .power in (
+      omega arith,
+      room-left (k .h) (k .flag) (k .root) (k .n) (p .result) (k .bytes .now) (c .before .before .before .before .if1 .left)
+          (p .ensures .0) (start .pre .1) (c .before .if4 .left),
+    ))
     -- the right side
     (λ c. search needs)
     (λ c. search needs)
@@ -90,8 +97,11 @@ pub +tree-spec : {M : Type 1} → statement M
     let start = c .before .before .before .before .before .before .before .before in
     let k = start .args in
     let p = c .before .before .before .before .power in
-    let some = c .before .before .before .before .before .before .if1 .left in
-    (omega (arith, start .pre .0, some), room-right (k .h) (k .flag) (k .root) (k .n) (p .result) (k .bytes .now) some (p .ensures .0) (start .pre .1) (c .before .before .before .if4 .left)))
+    let some = c .before .before .before .before .before .before .if1 .left in (
+      omega (arith, start .pre .0, some),
+      room-right (k .h) (k .flag) (k .root) (k .n) (p .result) (k .bytes .now) some (p .ensures .0)
+          (start .pre .1) (c .before .before .before .if4 .left),
+    ))
     -- the parent of both
     (λ c κs. search needs)
     (λ c.

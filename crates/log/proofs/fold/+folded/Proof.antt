@@ -39,13 +39,17 @@ pub +folded-spec : {M : Type 1} → statement M
     -- all leaves below it
     (λ c κs.
     let a = c .before .before .before .args in
-    let room = c .before .before .before .pre .1 in
-    (omega (arith, fold-height (a .k) (a .n) (a .s) room), room-skip (a .k) (a .n) (a .s) room (c .before .power .result) (c .before .power .ensures) (c .if1 .taken)))
+    let room = c .before .before .before .pre .1 in (
+      omega (arith, fold-height (a .k) (a .n) (a .s) room),
+      room-skip (a .k) (a .n) (a .s) room (c .before .power .result) (c .before .power .ensures)
+          (c .if1 .taken),
+    ))
     (λ c.
     let a = c .before .before .before .before .args in
     let room = c .before .before .before .before .pre .1 in
     c .folded .ensures
-    ∙ fold-skip (a .k) (a .n) (a .s) room (c .before .before .power .result) (c .before .before .power .ensures) (nodeIn (a .nodes .now)) (c .before .if1 .taken))
+    ∙ fold-skip (a .k) (a .n) (a .s) room (c .before .before .power .result) (c .before .before .power .ensures) (nodeIn (a .nodes .now))
+    (c .before .if1 .taken))
     -- the tallest peak
     (λ c. let a = c .before .before .before .args in
     let f = half-bounds (a .k) (a .n) (a .s) (c .before .before .before .pre .1) (c .before .power .result) (c .before .power .ensures) in omega arith)
@@ -59,7 +63,8 @@ pub +folded-spec : {M : Type 1} → statement M
     let a = c .before .before .before .before .before .args in
     let half = c .before .before .before .power in
     c .before .node-at .ensures
-    ∙ fold-one (a .k) (a .n) (a .s) (c .before .before .before .before .before .pre .1) (half .result) (half .ensures) (nodeIn (a .nodes .now)) (c .before .before .if1 .left) (c .if2 .taken))
+    ∙ fold-one (a .k) (a .n) (a .s) (c .before .before .before .before .before .pre .1) (half .result) (half .ensures) (nodeIn (a .nodes .now))
+    (c .before .before .if1 .left) (c .if2 .taken))
     -- the rest
     (λ c. let a = c .before .before .before .before .before .args in
     let half = c .before .before .before .power in
@@ -67,11 +72,15 @@ pub +folded-spec : {M : Type 1} → statement M
     (λ c κs.
     let a = c .before .before .before .before .before .args in
     let room = c .before .before .before .before .before .pre .1 in
-    let half = c .before .before .before .power in
-    (omega (arith, fold-height (a .k) (a .n) (a .s) room), room-rest (a .k) (a .n) (a .s) room (half .result) (half .ensures) (c .before .before .if1 .left) (c .if2 .left)))
+    let half = c .before .before .before .power in (
+      omega (arith, fold-height (a .k) (a .n) (a .s) room),
+      room-rest (a .k) (a .n) (a .s) room (half .result) (half .ensures)
+          (c .before .before .if1 .left) (c .if2 .left),
+    ))
     (λ c κs. search needs)
     (λ c.
     let a = c .before .before .before .before .before .before .before .args in
     let half = c .before .before .before .before .before .power in
     fold-more (a .k) (a .n) (a .s) (c .before .before .before .before .before .before .before .pre .1) (half .result) (half .ensures) (nodeIn (a .nodes .now))
-    (c .before .before .before .before .if1 .left) (c .before .before .if2 .left) (c .digest-of-pair .ensures) (c .before .before .before .node-at .ensures) (c .before .folded2 .ensures)))
+    (c .before .before .before .before .if1 .left) (c .before .before .if2 .left) (c .digest-of-pair .ensures)
+    (c .before .before .before .node-at .ensures) (c .before .folded2 .ensures)))

@@ -30,7 +30,8 @@ loop-again : tie.Need-loop-again Inv-loop μ-loop
 loop-again c =
     let at-loop = c .before .before .before .before .before .before .before .before .before .loop in
     writes-more (at-loop .inv) (c .before .before .before .before .before .before .before .before .loop-test .taken)
-    (c .before .before .before .before .before .digest-of-pair .ensures ∙ ap (λ (l : List ℕ). digestOf (l ++ at-loop .top .bytes)) (c .before .before .before .before .before .before .read-digest .ensures))
+    (c .before .before .before .before .before .digest-of-pair .ensures
+    ∙ ap (λ (l : List ℕ). digestOf (l ++ at-loop .top .bytes)) (c .before .before .before .before .before .before .read-digest .ensures))
     (c .before .before .write-digest2 .ensures)
 
 same-length : tie.Need-same-length Inv-loop μ-loop
@@ -43,7 +44,8 @@ returns c =
     let start = c .before .before .before .before .before .before .before .before .before .before .before in
     let left = leftIn (start .args .saved .bytes) in
     writes-all (c .before .loop .inv) (start .args .tail .now) (c .loop-test .left) (c .before .before .before .before .write-digest .ensures) (start .pre .1)
-    ∙ ap (λ (x : List ℕ). splice 0 (joined (ups left (start .args .m) x)) (start .args .tail .now)) (c .before .before .before .before .before .before .before .digest-of .ensures)
+    ∙ ap (λ (x : List ℕ). splice 0 (joined (ups left (start .args .m) x)) (start .args .tail .now))
+    (c .before .before .before .before .before .before .before .digest-of .ensures)
 
 pub write-new-spec : {M : Type 1} → statement M
 write-new-spec =
