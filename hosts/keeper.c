@@ -10,7 +10,7 @@
 #include "say.h"
 #include "store.h"
 
-enum { NODE = 32, PAIR = 64, KEEP_EVERY = 4096 };
+enum { SIZE = 8, NODE = 32, PAIR = 64, KEEP_EVERY = 4096 };
 static Input record, letter;
 
 static const char usage[] =
@@ -18,6 +18,7 @@ static const char usage[] =
     "keeper append LOG --folder FOLDER      each file of a folder, in the order of their names\n"
     "keeper append LOG --stream             records on standard input, each 4 bytes of length, big-endian, and its bytes\n"
     "keeper root LOG                        the size and the root, which the panel notes\n"
+    "keeper root LOG --bytes >NOTED         the same as 40 bytes, which the panel's program reads before a letter\n"
     "keeper letter LOG INDEX <RECORD >LETTER\n"
     "                                       the proof letter of a record\n"
     "keeper check SIZE ROOT [--record FILE] <LETTER\n"
@@ -152,15 +153,29 @@ static int append(int count, char **words) {
 
 /* ---- root, letter, check, find */
 
+/* The size in 8 bytes, big-endian, and the root. */
+static void write_noted(uint64_t size, const uint8_t top[NODE]) {
+    uint8_t bytes[SIZE];
+    for (int i = 0; i < SIZE; i++) bytes[i] = (uint8_t)(size >> 8 * (SIZE - 1 - i));
+    fwrite(bytes, 1, SIZE, stdout);
+    fwrite(top, 1, NODE, stdout);
+}
+
 static int root(int count, char **words) {
     Store log;
     uint8_t top[NODE];
-    if (count != 1) wrong_use();
+    int as_bytes = count == 2 && strcmp(words[1], "--bytes") == 0;
+    if (count != 1 && !as_bytes) wrong_use();
+    if (as_bytes && isatty(STDOUT_FILENO)) fail("these are bytes and no text: send them to a file, >NOTED");
     store_open(&log, words[0], 0);
     uint32_t number = keeper_root(log.size, store_nodes(&log), store_room(&log), top, NODE);
     if (number != KEEPER_DONE) return refused("root", number);
-    printf("%" PRIu64 " ", log.size);
-    print_hex(top, NODE);
+    if (as_bytes) {
+        write_noted(log.size, top);
+    } else {
+        printf("%" PRIu64 " ", log.size);
+        print_hex(top, NODE);
+    }
     store_close(&log);
     return finished();
 }

@@ -79,6 +79,11 @@ class HostTest(unittest.TestCase):
         self.assertEqual(self.done("root", path or self.log), f"{size} {top.hex()}\n".encode())
         self.assertEqual((path or self.log).read_bytes()[NODES:NODES + NODE * size], nodes)
 
+    def noted(self, records):
+        """The log's size and root as bytes are these records'."""
+        size, top, _ = said_of(records)
+        self.assertEqual(self.done("root", self.log, "--bytes"), size.to_bytes(8, "big") + top)
+
     def make(self, *groups):
         """A log with these groups of records, each kept on its own."""
         for records in groups:
@@ -98,6 +103,7 @@ class Appends(HostTest):
             line = f"appended 1 record, index {count}; size {size}, hashes {hashes}\n"
             self.assertEqual(self.done("append", self.log, given=record), line.encode())
             self.holds(RECORDS[:count + 1])
+            self.noted(RECORDS[:count + 1])
 
     def test_files_and_folder(self):
         folder = self.folder / "records"
@@ -182,16 +188,17 @@ class Letters(HostTest):
         letter = self.file("letter", letters.letter_of(size, 1, RECORDS[1], nodes))
         self.refused(13, "find", self.log, self.file("other", b"other"), letter)
         self.refused(9, "find", self.log, self.file("own", RECORDS[1]), self.file("changed", letter.read_bytes()[:-1] + b"\0"))
-        with open(self.log, "r+b") as log:
-            log.seek(NODES + NODE * 2)
-            log.write(bytes(NODE))
+        with open(self.log, "r+b") as file:
+            file.seek(NODES + NODE * 2)
+            file.write(bytes(NODE))
         self.refused(14, "find", self.log, self.file("own", RECORDS[1]), letter)
 
 
 class WrongUse(HostTest):
     def test_words(self):
         self.make(RECORDS[:1])
-        for words in ((), ("root",), ("roots", self.log), ("append",), ("append", self.log, "--folder"), ("append", self.log, "--other"),
+        for words in ((), ("root",), ("roots", self.log), ("root", self.log, "--byte"),
+                      ("append",), ("append", self.log, "--folder"), ("append", self.log, "--other"),
                       ("check", 1), ("check", 1, "00", "--record"), ("find", self.log), ("letter", self.log)):
             self.failed("wrong use", *words)
         for size in ("-1", "x", "", "1 ", str(2**64), "0x1"):
