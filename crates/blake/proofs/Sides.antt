@@ -1,16 +1,14 @@
 -- The tree over chunks: what a height adds, and that any height that holds the bytes gives the same tree.
 use mathlib.Core.Path.{_≡_, refl, sym, ap, _∙_, subst}
 use mathlib.Core.List.{List}
-use mathlib.Core.Bool.{Bool}
 use Prim.Native.Nat.{ℕ, zero, suc, _+_, _-_, _*_, _^_, _≤_, _<_}
 use native.Mathlib.Nat.{pow-suc, add-comm, le-trans, mul-le-mul-left}
 use native.Mathlib.Numerals.{sub-one}
 use native.Mathlib.Omega.{arith}
 use lib.ListN.{length, take, drop}
 use lib.Pow.{pow-mono}
-use lib.Dec.{leb}
 use borrow.Author.Tests.{le-leb, lt-leb}
-use Rattle.blake.specs.Blake.{pick, chunked, parented, treed, treeOf}
+use Rattle.blake.specs.Blake.{chunked, parented, treed, treeOf}
 
 pub lt-pow : (n : ℕ) → n < 2 ^ n
 lt-pow zero = omega arith
@@ -28,13 +26,10 @@ module _ (key : List ℕ) (flag root n : ℕ) (bs : List ℕ) where
   abbrev pub sides : ℕ → List ℕ
   sides k = parented key flag root (treed k key flag 0 n (take (1024 * 2 ^ k) bs)) (treed k key flag 0 (n + 2 ^ k) (drop (1024 * 2 ^ k) bs))
 
-  tree-step : (k : ℕ) → treed (suc k) key flag root n bs ≡ pick (leb (length bs) (1024 * 2 ^ k)) (treed k key flag root n bs) (sides k)
-  unfolding treed
-  tree-step k = refl
-
   -- what fits under the left side alone is that side
   short-suc : (k : ℕ) → length bs ≤ 1024 * 2 ^ k → treed k key flag root n bs ≡ treed (suc k) key flag root n bs
-  short-suc k l = sym (tree-step k ∙ ap (λ (b : Bool). pick b (treed k key flag root n bs) (sides k)) (le-leb _ _ l))
+  unfolding treed
+  short-suc k l = rw (le-leb (length bs) (1024 * 2 ^ k) l, treed)
 
   pub tree-short : (h : ℕ) → (h ≡ 0 → ⊥) → length bs ≤ 1024 * 2 ^ (h - 1) → treed (h - 1) key flag root n bs ≡ treed h key flag root n bs
   tree-short zero ne l = absurd (ne refl)
@@ -44,7 +39,8 @@ module _ (key : List ℕ) (flag root n : ℕ) (bs : List ℕ) where
 
   -- what does not is a parent
   long-suc : (k : ℕ) → 1024 * 2 ^ k < length bs → sides k ≡ treed (suc k) key flag root n bs
-  long-suc k l = sym (tree-step k ∙ ap (λ (b : Bool). pick b (treed k key flag root n bs) (sides k)) (lt-leb _ _ l))
+  unfolding treed
+  long-suc k l = rw (lt-leb (length bs) (1024 * 2 ^ k) l, treed)
 
   pub tree-long : (h : ℕ) → (h ≡ 0 → ⊥) → 1024 * 2 ^ (h - 1) < length bs → sides (h - 1) ≡ treed h key flag root n bs
   tree-long zero ne l = absurd (ne refl)

@@ -2,8 +2,8 @@
 use mathlib.Core.List.{List}
 use Prim.Native.Nat.{ℕ, _+_, _*_, _/_, _%_}
 use lib.ListN.{getD, take, drop}
-use Rattle.blake.specs.Build.{build}
-use Rattle.blake.specs.Blake.{compressed, wordsOf}
+use Rattle.compression.specs.Build.{build}
+use Rattle.compression.specs.Compression.{compressed, wordsOf}
 
 -- lane k
 unfoldable pub laneOf : List ℕ → ℕ → List ℕ

@@ -3,9 +3,9 @@ ghost use mathlib.Core.Path.{_≡_};
 ghost use Prim.Native.Nat.{_≤_};
 ghost use lib.ListN.{length};
 ghost use Rattle.blake.specs.Blake.{chunked};
-use crate::compress::compress;
-use crate::word::load;
-use crate::word::load_short;
+use compression::compress::compress;
+use compression::word::load;
+use compression::word::load_short;
 
 // The chaining words of chunk number n, of at most 1,024 bytes.
 pub(crate) fn chunk(key: [u32; 8], flag: u32, root: u32, n: u64, bytes: &[u8]) -> [u32; 8]

@@ -4,8 +4,8 @@ ghost use Prim.Native.Nat.{_+_, _^_, _<_, _≤_};
 ghost use lib.ListN.{length};
 ghost use Rattle.blake.specs.Blake.{chunked};
 ghost use Rattle.blake.specs.Lanes.{laneOf, laned, part, compressed4};
-use crate::compress::compress_lane;
-use crate::word::load;
+use compression::compress::compress_lane;
+use compression::word::load;
 
 // Lane k of four.
 pub(crate) fn lane(v: &[u32; 32], k: usize) -> [u32; 8]

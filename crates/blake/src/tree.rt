@@ -6,12 +6,12 @@ ghost use lib.ListN.{length};
 ghost use Rattle.blake.specs.Blake.{parented, treed, digested};
 ghost use Rattle.blake.specs.Room.{Room};
 use crate::chunk::chunk;
-use crate::compress::compress;
 use crate::lane::chunk4;
 use crate::lane::lane;
-use crate::word::join;
-use crate::word::load_half;
-use crate::word::unload;
+use compression::compress::compress;
+use compression::word::join;
+use compression::word::load_half;
+use compression::word::unload;
 
 // A parent of two chaining values.
 fn parent(key: [u32; 8], flag: u32, root: u32, l: [u32; 8], r: [u32; 8]) -> [u32; 8]

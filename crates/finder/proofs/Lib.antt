@@ -11,3 +11,4 @@ pub mod Whole
 pub mod Formed
 pub mod Breaking
 pub mod Agreed
+pub mod Collides

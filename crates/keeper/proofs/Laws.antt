@@ -23,7 +23,7 @@ use Rattle.keeper.proofs.Kept.{kept-refused, kept-done, refused-first, 
 -- ---- Append
 
 module _ (size : ℕ) (rec bs : List ℕ) (oldSize oldCount : ℕ) (r : Appended) (x : List ℕ)
-    (e : appended r x ≡ appendOutcome size rec bs) where
+    (e : appended r x ≡ appendOutcome digestOf size rec bs) where
   abbrev number : AppendOutcome → ℕ
   number o = o .number
 
@@ -37,14 +37,14 @@ module _ (size : ℕ) (rec bs : List ℕ) (oldSize oldCount : ℕ) (r : Appended
   pub append-refused : r .number ≢ 0 → appendLeft (r .number) oldSize oldCount x ≡ appendCall size rec bs oldSize oldCount
   unfolding appendOutcome appendCall appendDone
   append-refused k =
-      let g = refusal number (appendRefused size bs) (appendOrder size rec bs) (appendDone size rec bs) (λ n. refl) refl e k in
+      let g = refusal number (appendRefused size bs) (appendOrder size rec bs) (appendDone digestOf size rec bs) (λ n. refl) refl e k in
       ap (appendLeft (r .number) oldSize oldCount) (ap (λ (o : AppendOutcome). o .bytes) g)
-      ∙ kept-refused number (appendRefused size bs) (appendOrder size rec bs) (appendDone size rec bs) (λ n. refl) refl e kept left k
+      ∙ kept-refused number (appendRefused size bs) (appendOrder size rec bs) (appendDone digestOf size rec bs) (λ n. refl) refl e kept left k
 
   pub append-done : r .number ≡ 0 → appendLeft 0 (r .size) (r .count) x ≡ appendCall size rec bs oldSize oldCount
   unfolding appendOutcome appendCall appendDone appendOrder
   append-done =
-      kept-done number (appendRefused size bs) (appendOrder size rec bs) (appendDone size rec bs) (λ n. refl) refl e kept left tt
+      kept-done number (appendRefused size bs) (appendOrder size rec bs) (appendDone digestOf size rec bs) (λ n. refl) refl e kept left tt
 
 -- ---- A digest written out
 
@@ -64,7 +64,7 @@ module _ (bs out : List ℕ) where
       let f = fits (digestOf bs) out y (digest-length bs) h (w ∙ ap (λ (l : List ℕ). written 0 l out) p) in
       passes _ _ _ (ap (filled 0) f) (search needs)
 
-module _ (size : ℕ) (bs out : List ℕ) (r : Rooted) (e : rooted r ≡ rootOutcome size bs) where
+module _ (size : ℕ) (bs out : List ℕ) (r : Rooted) (e : rooted r ≡ rootOutcome digestOf size bs) where
   abbrev rootNumber : RootOutcome → ℕ
   rootNumber o = o .number
 
@@ -72,21 +72,21 @@ module _ (size : ℕ) (bs out : List ℕ) (r : Rooted) (e : rooted r ≡ rootOut
   pub root-refused : r .number ≢ 0 → filled (r .number) out ≡ rootCall size bs out
   unfolding rootOutcome rootCall rootDone
   root-refused =
-      refused-first rootNumber rootRefused (rootOrder size bs) (rootDone size bs) (λ n. refl) refl e (unfilled out) (outOrder out) _
+      refused-first rootNumber rootRefused (rootOrder size bs) (rootDone digestOf size bs) (λ n. refl) refl e (unfilled out) (outOrder out) _
 
-  rest : {y : Filled} → r .number ≡ 0 → y ≡ verdict (unfilled out) (outOrder out) (filled 0 (splice 0 (rootDone size bs .digest) out))
+  rest : {y : Filled} → r .number ≡ 0 → y ≡ verdict (unfilled out) (outOrder out) (filled 0 (splice 0 (rootDone digestOf size bs .digest) out))
       → y ≡ rootCall size bs out
   unfolding rootOutcome rootCall rootDone rootOrder
   rest z =
-      rest-decides rootNumber rootRefused (rootOrder size bs) (rootDone size bs) (λ n. refl) refl e (unfilled out) (outOrder out) _ tt z
+      rest-decides rootNumber rootRefused (rootOrder size bs) (rootDone digestOf size bs) (λ n. refl) refl e (unfilled out) (outOrder out) _ tt z
 
   pub root-short : r .number ≡ 0 → length out < 32 → filled 6 out ≡ rootCall size bs out
   root-short z h = rest z (refuses 6 _ _ _ refl (search needs))
 
-  root-is : r .number ≡ 0 → r .digest .bytes ≡ rootDone size bs .digest
+  root-is : r .number ≡ 0 → r .digest .bytes ≡ rootDone digestOf size bs .digest
   unfolding rootOutcome rootDone rootOrder
   root-is z =
-      ap (λ (o : RootOutcome). o .digest) (accepted rootNumber rootRefused (rootOrder size bs) (rootDone size bs) (λ n. refl) refl e tt z .1)
+      ap (λ (o : RootOutcome). o .digest) (accepted rootNumber rootRefused (rootOrder size bs) (rootDone digestOf size bs) (λ n. refl) refl e tt z .1)
 
   pub root-done : (y : List ℕ) → r .number ≡ 0 → 32 ≤ length out → length (r .digest .bytes) ≡ 32
       → y ≡ written 0 (r .digest .bytes) out → filled 0 y ≡ rootCall size bs out

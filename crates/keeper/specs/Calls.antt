@@ -30,7 +30,7 @@ appendLeft number size count bs = record { number = number; size = size; count =
 -- the result variables held `oldSize` and `oldCount`
 unfoldable pub appendCall : ℕ → List ℕ → List ℕ → ℕ → ℕ → AppendOutcome
 appendCall size rec bs oldSize oldCount =
-    verdict (λ number. appendLeft number oldSize oldCount bs) (appendOrder size rec bs) (appendDone size rec bs)
+    verdict (λ number. appendLeft number oldSize oldCount bs) (appendOrder size rec bs) (appendDone digestOf size rec bs)
 
 -- ---- A digest written out
 
@@ -57,7 +57,7 @@ digestCall bs out = verdict (unfilled out) (outOrder out) (filled 0 (splice 0 (d
 -- the root, in the first 32 bytes of the output: 1, 10, 4, then 6
 unfoldable pub rootCall : ℕ → List ℕ → List ℕ → Filled
 rootCall size bs out =
-    verdict (unfilled out) (rootOrder size bs ++ outOrder out) (filled 0 (splice 0 (rootDone size bs .digest) out))
+    verdict (unfilled out) (rootOrder size bs ++ outOrder out) (filled 0 (splice 0 (rootDone digestOf size bs .digest) out))
 
 -- ---- A writer
 

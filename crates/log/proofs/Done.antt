@@ -53,7 +53,7 @@ module _ {size n m : ℕ} (rec bs : List ℕ) (k : Counts size n) (e : m ≡ tra
 
   pub append-done : {r : Appended} {last : List ℕ} → r .number ≡ 0 → r .size ≡ size + (1 + m) → r .count ≡ 1 + m
       → last ≡ splice (32 * size) (joined (newNodes digestOf (nodeIn bs) (leaves size) (digestOf rec))) bs
-      → appended r last ≡ appendDone size rec bs
+      → appended r last ≡ appendDone digestOf size rec bs
   unfolding appendDone
   append-done {r} {last} a b c d =
       let s : r .size ≡ sizeOf (suc (leaves size)) = b ∙ sym (grown-size k e) in
@@ -62,7 +62,7 @@ module _ {size n m : ℕ} (rec bs : List ℕ) (k : Counts size n) (e : m ≡ tra
 
 -- the peaks folded
 pub root-done : {size n : ℕ} (bs : List ℕ) → Counts size n → 0 < n → {r : Rooted} → r .number ≡ 0 → r .digest .bytes ≡ foldFrom digestOf bs n 0
-    → rooted r ≡ rootDone size bs
+    → rooted r ≡ rootDone digestOf size bs
 unfolding rootDone peaks
 root-done {n = n} bs k some {r} a b =
     let d : r .digest .bytes ≡ fold digestOf (nodeIn bs) (peaks (leaves _)) =

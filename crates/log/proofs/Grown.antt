@@ -32,16 +32,16 @@ log-32 rs = nodes-32 digestOf digest-length (map digestOf rs) (each-map 32 diges
 log-length : (rs : List (List ℕ)) → length (nodes digestOf (map digestOf rs)) ≡ sizeOf (length rs)
 log-length rs = nodes-length digestOf (map digestOf rs) ∙ ap sizeOf (length-map rs digestOf)
 
-pub nodes-bytes : (rs : List (List ℕ)) → length (nodesOf rs) ≡ 32 * sizeOf (length rs)
+pub nodes-bytes : (rs : List (List ℕ)) → length (nodesOf digestOf rs) ≡ 32 * sizeOf (length rs)
 unfolding nodesOf
 nodes-bytes rs = joined-length (nodes digestOf (map digestOf rs)) (log-32 rs) ∙ ap (λ (x : ℕ). 32 * x) (log-length rs)
 
-module _ (rs : List (List ℕ)) (bs : List ℕ) (b : Begins bs rs) where
+module _ (rs : List (List ℕ)) (bs : List ℕ) (b : Begins digestOf bs rs) where
   -- the buffer holds the log's nodes, each at its position
   pub begins-hold : Holds (nodeIn bs) 0 (nodes digestOf (map digestOf rs))
   unfolding nodesOf
   begins-hold k h =
-      let whole : bs ≡ nodesOf rs ++ drop (32 * sizeOf (length rs)) bs =
+      let whole : bs ≡ nodesOf digestOf rs ++ drop (32 * sizeOf (length rs)) bs =
       sym (take-append-drop (32 * sizeOf (length rs)) bs) ∙ ap (λ (l : List ℕ). l ++ drop (32 * sizeOf (length rs)) bs) b in
       ap₂ nodeIn whole (zero-add k)
       ∙ node-joined (nodes digestOf (map digestOf rs)) (drop (32 * sizeOf (length rs)) bs) k (log-32 rs) h
@@ -49,12 +49,12 @@ module _ (rs : List (List ℕ)) (bs : List ℕ) (b : Begins bs rs) where
   pub begins-long : 32 * sizeOf (length rs) ≤ length bs
   begins-long = omega (arith, length-take (32 * sizeOf (length rs)) bs, ap length b, nodes-bytes rs)
 
-module _ (rs : List (List ℕ)) (r bs : List ℕ) (few : length rs < 2 ^ 32) (b : Begins bs rs) where
+module _ (rs : List (List ℕ)) (r bs : List ℕ) (few : length rs < 2 ^ 32) (b : Begins digestOf bs rs) where
   k : Counts (sizeOf (length rs)) (length rs)
   k = counts-size (length rs) (omega arith)
 
   -- the old nodes and the new ones are the nodes of one record more
-  old-and-new : nodesOf rs ++ joined (newNodes digestOf (nodeIn bs) (leaves (sizeOf (length rs))) (digestOf r)) ≡ nodesOf (rs ++ (r ∷ []))
+  old-and-new : nodesOf digestOf rs ++ joined (newNodes digestOf (nodeIn bs) (leaves (sizeOf (length rs))) (digestOf r)) ≡ nodesOf digestOf (rs ++ (r ∷ []))
   unfolding nodesOf
   old-and-new =
       let ds = map digestOf rs in
@@ -70,7 +70,7 @@ module _ (rs : List (List ℕ)) (r bs : List ℕ) (few : length rs < 2 ^ 32) (b 
       ∙ ap (λ (x : ℕ). 32 * x) (new-length digestOf (nodeIn bs) n (digestOf r) ∙ ap hashCount (k .value))
 
   grown : splice (32 * sizeOf (length rs)) (joined (newNodes digestOf (nodeIn bs) (leaves (sizeOf (length rs))) (digestOf r))) bs
-      ≡ nodesOf (rs ++ (r ∷ [])) ++ drop (32 * sizeOf (suc (length rs))) bs
+      ≡ nodesOf digestOf (rs ++ (r ∷ [])) ++ drop (32 * sizeOf (suc (length rs))) bs
   unfolding splice
   grown =
       let e : 32 * sizeOf (length rs) + length (joined (newNodes digestOf (nodeIn bs) (leaves (sizeOf (length rs))) (digestOf r)))
@@ -81,30 +81,30 @@ module _ (rs : List (List ℕ)) (r bs : List ℕ) (few : length rs < 2 ^ 32) (b 
 
   -- an append of a record within the limits, with room: the nodes of one record more, and what lay beyond them
   pub append-grows : length r ≤ 16384 → 32 * sizeOf (suc (length rs)) ≤ length bs
-      → appendOutcome (sizeOf (length rs)) r bs
+      → appendOutcome digestOf (sizeOf (length rs)) r bs
       ≡ record {
         number = 0;
         size = sizeOf (suc (length rs));
         count = hashCount (length rs);
-        bytes = nodesOf (rs ++ (r ∷ [])) ++ drop (32 * sizeOf (suc (length rs))) bs;
+        bytes = nodesOf digestOf (rs ++ (r ∷ [])) ++ drop (32 * sizeOf (suc (length rs))) bs;
       }
   unfolding appendOutcome appendOrder appendDone
   append-grows short room =
       let c = k in
       let s : sizeOf (suc (leaves (sizeOf (length rs)))) ≡ sizeOf (suc (length rs)) = ap (λ (x : ℕ). sizeOf (suc x)) (c .value) in
       let t : hashCount (leaves (sizeOf (length rs))) ≡ hashCount (length rs) = ap hashCount (c .value) in
-      sym (passes _ _ _ {r = appendDone (sizeOf (length rs)) r bs} refl (search needs))
+      sym (passes _ _ _ {r = appendDone digestOf (sizeOf (length rs)) r bs} refl (search needs))
       ∙ (λ i. record { number = 0; size = s i; count = t i; bytes = grown i })
 
 -- the root of a buffer that begins with a log's nodes is that of the folded tree over the records' digests
-pub root-of-log : (rs : List (List ℕ)) (bs : List ℕ) → 0 < length rs → length rs ≤ 2 ^ 32 → Begins bs rs
-    → rootOutcome (sizeOf (length rs)) bs ≡ record { number = 0; digest = root digestOf (tree (map digestOf rs)) }
+pub root-of-log : (rs : List (List ℕ)) (bs : List ℕ) → 0 < length rs → length rs ≤ 2 ^ 32 → Begins digestOf bs rs
+    → rootOutcome digestOf (sizeOf (length rs)) bs ≡ record { number = 0; digest = root digestOf (tree (map digestOf rs)) }
 unfolding rootOutcome rootOrder rootDone
 root-of-log rs bs some few b =
     let c = counts-size (length rs) few in
     let long = begins-long rs bs b in
     let n : leaves (sizeOf (length rs)) ≡ length (map digestOf rs) = c .value ∙ sym (length-map rs digestOf) in
-    sym (passes _ _ _ {r = rootDone (sizeOf (length rs)) bs} refl (search needs))
+    sym (passes _ _ _ {r = rootDone digestOf (sizeOf (length rs)) bs} refl (search needs))
     ∙ (λ i. record {
       number = 0;
       digest =

@@ -21,12 +21,12 @@ use Rattle.log.specs.Outcomes.{AppendOutcome, leaves, appendRefused, app
 
 -- two appends that answer alike and write the same bytes
 pub record Alike (size : ℕ) (rec bs cs : List ℕ) : Type 0 where
-  pub number : appendOutcome size rec bs .number ≡ appendOutcome size rec cs .number
-  pub grown : appendOutcome size rec bs .size ≡ appendOutcome size rec cs .size
-  pub count : appendOutcome size rec bs .count ≡ appendOutcome size rec cs .count
+  pub number : appendOutcome digestOf size rec bs .number ≡ appendOutcome digestOf size rec cs .number
+  pub grown : appendOutcome digestOf size rec bs .size ≡ appendOutcome digestOf size rec cs .size
+  pub count : appendOutcome digestOf size rec bs .count ≡ appendOutcome digestOf size rec cs .count
   pub new : List ℕ
-  pub one : appendOutcome size rec bs .bytes ≡ splice (32 * size) new bs
-  pub other : appendOutcome size rec cs .bytes ≡ splice (32 * size) new cs
+  pub one : appendOutcome digestOf size rec bs .bytes ≡ splice (32 * size) new bs
+  pub other : appendOutcome digestOf size rec cs .bytes ≡ splice (32 * size) new cs
 
 module _ (size : ℕ) (rec bs cs : List ℕ) (l : length bs ≡ length cs) (same : take (32 * size) bs ≡ take (32 * size) cs) where
   one-order : appendOrder size rec bs ≡ appendOrder size rec cs
@@ -34,22 +34,22 @@ module _ (size : ℕ) (rec bs cs : List ℕ) (l : length bs ≡ length cs) (same
   one-order = rw l
 
   -- the number of an append is that of its order
-  number-first : (xs : List ℕ) → appendOutcome size rec xs .number ≡ first (appendOrder size rec xs)
+  number-first : (xs : List ℕ) → appendOutcome digestOf size rec xs .number ≡ first (appendOrder size rec xs)
   unfolding appendOutcome appendDone
   number-first xs =
-      number-is (λ (x : AppendOutcome). x .number) (appendRefused size xs) (appendOrder size rec xs) (appendDone size rec xs) (λ m. refl) refl
-      {r = appendOutcome size rec xs} refl
+      number-is (λ (x : AppendOutcome). x .number) (appendRefused size xs) (appendOrder size rec xs) (appendDone digestOf size rec xs) (λ m. refl) refl
+      {r = appendOutcome digestOf size rec xs} refl
 
-  one-number : appendOutcome size rec bs .number ≡ appendOutcome size rec cs .number
+  one-number : appendOutcome digestOf size rec bs .number ≡ appendOutcome digestOf size rec cs .number
   one-number = number-first bs ∙ ap first one-order ∙ sym (number-first cs)
 
   -- refused: nothing is written
-  left-alike : appendOutcome size rec bs .number ≢ 0 → Alike size rec bs cs
+  left-alike : appendOutcome digestOf size rec bs .number ≢ 0 → Alike size rec bs cs
   unfolding appendOutcome appendDone
   left-alike z =
-      let e : (xs : List ℕ) → appendOutcome size rec xs .number ≢ 0 → appendOutcome size rec xs ≡ appendRefused size xs (appendOutcome size rec xs .number) =
-      λ xs y. refusal (λ (x : AppendOutcome). x .number) (appendRefused size xs) (appendOrder size rec xs) (appendDone size rec xs) (λ m. refl) refl
-      {r = appendOutcome size rec xs} refl y in
+      let e : (xs : List ℕ) → appendOutcome digestOf size rec xs .number ≢ 0 → appendOutcome digestOf size rec xs ≡ appendRefused size xs (appendOutcome digestOf size rec xs .number) =
+      λ xs y. refusal (λ (x : AppendOutcome). x .number) (appendRefused size xs) (appendOrder size rec xs) (appendDone digestOf size rec xs) (λ m. refl) refl
+      {r = appendOutcome digestOf size rec xs} refl y in
       let p = e bs z in
       let q = e cs (λ h. z (one-number ∙ h)) in
       record {
@@ -70,12 +70,12 @@ module _ (size : ℕ) (rec bs cs : List ℕ) (l : length bs ≡ length cs) (same
       ∙ part-take (32 * p) 32 (32 * size) cs (omega arith) (omega arith)
 
   -- done: the same new nodes
-  done-alike : appendOutcome size rec bs .number ≡ 0 → Alike size rec bs cs
+  done-alike : appendOutcome digestOf size rec bs .number ≡ 0 → Alike size rec bs cs
   unfolding appendOutcome appendOrder appendDone
   done-alike z =
-      let e : (xs : List ℕ) → appendOutcome size rec xs .number ≡ 0 → Passes (appendOrder size rec xs) × (appendOutcome size rec xs ≡ appendDone size rec xs) =
-      λ xs y. accepted (λ (x : AppendOutcome). x .number) (appendRefused size xs) (appendOrder size rec xs) (appendDone size rec xs) (λ m. refl) refl
-      {r = appendOutcome size rec xs} refl tt y in
+      let e : (xs : List ℕ) → appendOutcome digestOf size rec xs .number ≡ 0 → Passes (appendOrder size rec xs) × (appendOutcome digestOf size rec xs ≡ appendDone digestOf size rec xs) =
+      λ xs y. accepted (λ (x : AppendOutcome). x .number) (appendRefused size xs) (appendOrder size rec xs) (appendDone digestOf size rec xs) (λ m. refl) refl
+      {r = appendOutcome digestOf size rec xs} refl tt y in
       let p = e bs z .1 in
       let q = e cs (sym one-number ∙ z) .1 in
       let t = e bs z .0 in
@@ -95,4 +95,4 @@ module _ (size : ℕ) (rec bs cs : List ℕ) (l : length bs ≡ length cs) (same
 
   -- two buffers of one length that agree below 32 × size
   pub append-local : Alike size rec bs cs
-  append-local = by-cases (ℕ-discrete (appendOutcome size rec bs .number) 0) done-alike left-alike
+  append-local = by-cases (ℕ-discrete (appendOutcome digestOf size rec bs .number) 0) done-alike left-alike

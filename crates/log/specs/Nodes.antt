@@ -5,7 +5,6 @@ use mathlib.Core.List.{List, [], _∷_, _++_, map}
 use Prim.Native.Nat.{ℕ, suc, _*_, _^_}
 use lib.Dec.{ltb, leb}
 use lib.ListN.{length, take}
-use Rattle.digest.specs.Digest.{digestOf}
 use Rattle.wire.specs.Runs.{part, zeros}
 use Rattle.shape.specs.Sizes.{sizeOf, heightOf}
 use Rattle.shape.specs.Nodes.{nodes}
@@ -27,9 +26,9 @@ joined [] = []
 joined (d ∷ ds) = d ++ joined ds
 
 -- the nodes of a list of records, in position order
-unfoldable pub nodesOf : List (List ℕ) → List ℕ
-nodesOf rs = joined (nodes digestOf (map digestOf rs))
+unfoldable pub nodesOf : (List ℕ → List ℕ) → List (List ℕ) → List ℕ
+nodesOf digest rs = joined (nodes digest (map digest rs))
 
 -- a buffer begins with the nodes of these records; bytes beyond the size mean nothing
-abbrev pub Begins : List ℕ → List (List ℕ) → Type 0
-Begins bs rs = take (32 * sizeOf (length rs)) bs ≡ nodesOf rs
+abbrev pub Begins : (List ℕ → List ℕ) → List ℕ → List (List ℕ) → Type 0
+Begins digest bs rs = take (32 * sizeOf (length rs)) bs ≡ nodesOf digest rs

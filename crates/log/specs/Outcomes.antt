@@ -2,7 +2,6 @@
 use mathlib.Core.List.{List, [], _∷_}
 use Prim.Native.Nat.{ℕ, suc, _*_, _^_}
 use lib.ListN.{length}
-use Rattle.digest.specs.Digest.{digestOf}
 use Rattle.order.specs.Order.{Refusal, _if_, _is_, _above_, _under_, verdict}
 use Rattle.shape.specs.Sizes.{sizeOf, countAnswer, hashCount}
 use Rattle.shape.specs.Nodes.{newNodes}
@@ -42,18 +41,18 @@ appendOrder size rec bs =
     ∷ []
 
 -- done: the new size, the hash count, and the new nodes from byte 32 × old size on, every other byte as it was
-unfoldable pub appendDone : ℕ → List ℕ → List ℕ → AppendOutcome
-appendDone size rec bs =
+unfoldable pub appendDone : (List ℕ → List ℕ) → ℕ → List ℕ → List ℕ → AppendOutcome
+appendDone digest size rec bs =
     let n = leaves size in
     record {
       number = 0;
       size = sizeOf (suc n);
       count = hashCount n;
-      bytes = splice (32 * size) (joined (newNodes digestOf (nodeIn bs) n (digestOf rec))) bs;
+      bytes = splice (32 * size) (joined (newNodes digest (nodeIn bs) n (digest rec))) bs;
     }
 
-unfoldable pub appendOutcome : ℕ → List ℕ → List ℕ → AppendOutcome
-appendOutcome size rec bs = verdict (appendRefused size bs) (appendOrder size rec bs) (appendDone size rec bs)
+unfoldable pub appendOutcome : (List ℕ → List ℕ) → ℕ → List ℕ → List ℕ → AppendOutcome
+appendOutcome digest size rec bs = verdict (appendRefused size bs) (appendOrder size rec bs) (appendDone digest size rec bs)
 
 -- ---- Root
 
@@ -74,8 +73,8 @@ unfoldable pub rootOrder : ℕ → List ℕ → List Refusal
 rootOrder size bs = 1 if countAnswer size .number is 1 ∷ 10 if leaves size is 0 ∷ 4 if length bs under 32 * size ∷ []
 
 -- done: the rightmost peak, folded leftward
-unfoldable pub rootDone : ℕ → List ℕ → RootOutcome
-rootDone size bs = record { number = 0; digest = fold digestOf (nodeIn bs) (peaks (leaves size)) }
+unfoldable pub rootDone : (List ℕ → List ℕ) → ℕ → List ℕ → RootOutcome
+rootDone digest size bs = record { number = 0; digest = fold digest (nodeIn bs) (peaks (leaves size)) }
 
-unfoldable pub rootOutcome : ℕ → List ℕ → RootOutcome
-rootOutcome size bs = verdict rootRefused (rootOrder size bs) (rootDone size bs)
+unfoldable pub rootOutcome : (List ℕ → List ℕ) → ℕ → List ℕ → RootOutcome
+rootOutcome digest size bs = verdict rootRefused (rootOrder size bs) (rootDone digest size bs)

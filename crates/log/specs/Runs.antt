@@ -21,9 +21,9 @@ pub record State : Type 0 where
   pub taken : List (List ℕ)
 
 -- one append: a record is taken where the number is 0
-unfoldable pub step : State → List ℕ → State
-step s r =
-    let o = appendOutcome (s .size) r (s .bytes) in
+unfoldable pub step : (List ℕ → List ℕ) → State → List ℕ → State
+step digest s r =
+    let o = appendOutcome digest (s .size) r (s .bytes) in
     record {
       size = o .size;
       bytes = o .bytes;
@@ -31,19 +31,19 @@ step s r =
     }
 
 -- one after the other
-unfoldable pub run : State → List (List ℕ) → State
-run s [] = s
-run s (r ∷ rs) = run (step s r) rs
+unfoldable pub run : (List ℕ → List ℕ) → State → List (List ℕ) → State
+run digest s [] = s
+run digest s (r ∷ rs) = run digest (step digest s r) rs
 
 -- an empty log over any buffer
 abbrev pub empty : List ℕ → State
 empty bs = record { size = 0; bytes = bs; taken = [] }
 
 -- what any run over the buffer bs leaves: the nodes of the records that were taken, in position order, and every byte beyond them as it was
-pub record Sound (bs : List ℕ) (s : State) : Type 0 where
+pub record Sound (digest : List ℕ → List ℕ) (bs : List ℕ) (s : State) : Type 0 where
   pub few : length (s .taken) ≤ 2 ^ 32
   pub short : Short (s .taken)
   pub size : s .size ≡ sizeOf (length (s .taken))
-  pub begins : Begins (s .bytes) (s .taken)
+  pub begins : Begins digest (s .bytes) (s .taken)
   pub beyond : drop (32 * s .size) (s .bytes) ≡ drop (32 * s .size) bs
   pub long : length (s .bytes) ≡ length bs

@@ -1,5 +1,6 @@
 // A log's nodes in a lent buffer: append and root.
 ghost use mathlib.Core.Path.{_≡_};
+ghost use Rattle.digest.specs.Digest.{digestOf};
 ghost use Rattle.log.specs.Outcomes.{appended, appendOutcome, rooted, rootOutcome};
 ghost use Rattle.log.specs.Steps.{notAppended, notRooted};
 
@@ -37,7 +38,7 @@ fn not_appended(number: u32, size: u64) -> Appended
 
 // One more record: the new nodes behind the old, the new size, and how many digests were worked out.
 pub fn append(size: u64, rec: &[u8], nodes: &mut [u8]) -> Appended
-    ensures { λ r. ⌜ appended r (now (nodes .exit)) ≡ appendOutcome size (now (rec .entry)) (now (nodes .entry)) ⌝ }
+    ensures { λ r. ⌜ appended r (now (nodes .exit)) ≡ appendOutcome digestOf size (now (rec .entry)) (now (nodes .entry)) ⌝ }
 {
     let c = shape::leaf_count(size);
     let Counted::Leaves(n) = c else {
@@ -77,7 +78,7 @@ fn not_rooted(number: u32) -> Rooted
 
 // The root of a log.
 pub fn root(size: u64, nodes: &[u8]) -> Rooted
-    ensures { λ r. ⌜ rooted r ≡ rootOutcome size (now (nodes .entry)) ⌝ }
+    ensures { λ r. ⌜ rooted r ≡ rootOutcome digestOf size (now (nodes .entry)) ⌝ }
 {
     let c = shape::leaf_count(size);
     let Counted::Leaves(n) = c else {

@@ -1,6 +1,8 @@
 // The program that panels run: trusted size (8 bytes, big-endian), root (32) and one letter from standard input, the verdict number in
 // decimal and a newline to standard output. It reads at most 17,469 bytes, since a longer letter gets the same number.
 ghost use mathlib.Core.Path.{_≡_};
+ghost use mathlib.Core.List.{List};
+ghost use Prim.Native.Nat.{ℕ};
 ghost use lib.ListN.{length, take};
 ghost use Rattle.io.specs.Counts.{Counts};
 ghost use Rattle.io.specs.Digits.{digits, Fewest};
@@ -12,8 +14,9 @@ use libc::STDOUT_FILENO;
 // The verdict number in decimal, by the fewest digits, at the start of out; how many they are.
 fn verdict(input: &[u8], out: &mut [u8; 20]) -> usize
     ensures { λ r. ⌜ Counts r (now (out .exit)) ⌝ }
-    ensures { λ r. ⌜ Fewest 10 1 (judged digestOf (now (input .entry))) r ⌝ }
-    ensures { λ r. ⌜ take r (now (out .exit)) ≡ digits 10 r (judged digestOf (now (input .entry))) ⌝ }
+    ensures { λ r. ⌜ ((whole : List ℕ) → now (input .entry) ≡ take 17469 whole → Fewest 10 1 (judged digestOf whole) r) ⌝ }
+    ensures { λ r. ⌜ ((whole : List ℕ) → now (input .entry) ≡ take 17469 whole
+        → take r (now (out .exit)) ≡ digits 10 r (judged digestOf whole)) ⌝ }
 {
     io::decimal(checker::judge(input) as u64, out)
 }

@@ -19,14 +19,14 @@ use Rattle.promise.proofs.Checked.{letters-accepted}
 use Rattle.promise.proofs.Found.{accepted-ends, ours-same, same-ours}
 
 -- a buffer that begins with a log's nodes holds each at its place
-kept : (rs : List (List ℕ)) (bs : List ℕ) → Log rs → Begins bs rs → Kept digestOf rs bs
+kept : (rs : List (List ℕ)) (bs : List ℕ) → Log rs → Begins digestOf bs rs → Kept digestOf rs bs
 kept rs bs g b = record { digest-32 = digest-length; log = g; holds = begins-hold rs bs b; room = begins-long rs bs b }
 
 -- and the root that is answered is the tree's
 of-every-log : (Says : List (List ℕ) → List ℕ → List ℕ → Type 0)
     → ((rs : List (List ℕ)) (bs : List ℕ) → Kept digestOf rs bs → Says rs (root digestOf (tree (map digestOf rs))) bs) → OfEveryLog Says
 of-every-log Says law rs g bs b =
-    let e : rootOutcome (logSize rs) bs .digest ≡ root digestOf (tree (map digestOf rs)) =
+    let e : rootOutcome digestOf (logSize rs) bs .digest ≡ root digestOf (tree (map digestOf rs)) =
     ap (λ (o : RootOutcome). o .digest) (root-of-log rs bs (g .some) (g .few) b) in
     subst (λ (d : List ℕ). Says rs d bs) (sym e) (law rs bs (kept rs bs g b))
 
@@ -46,15 +46,15 @@ pub same-is-ours : SameIsOurs
 same-is-ours = of-every-log (EverySameOurs digestOf) (λ rs bs k. same-ours k)
 
 -- a log has one letter for an index, whatever stands in a buffer beyond its nodes
-pub one-letter : (rs : List (List ℕ)) (bs cs : List ℕ) → Log rs → Begins bs rs → Begins cs rs → (i : ℕ) → i < length rs
+pub one-letter : (rs : List (List ℕ)) (bs cs : List ℕ) → Log rs → Begins digestOf bs rs → Begins digestOf cs rs → (i : ℕ) → i < length rs
     → ours digestOf rs bs i ≡ ours digestOf rs cs i
 one-letter rs bs cs g b c i p = letter-own (kept rs bs g b) i p (recordAt rs i) ∙ sym (letter-own (kept rs cs g c) i p (recordAt rs i))
 
 -- any run of appends to an empty log, refused ones among them, that took a record leaves such a log, its size, and such a buffer
-pub appends-build : (bs : List ℕ) (rs : List (List ℕ)) → 1 ≤ length (run (empty bs) rs .taken)
-    → Log (run (empty bs) rs .taken)
-    × Begins (run (empty bs) rs .bytes) (run (empty bs) rs .taken)
-    × (run (empty bs) rs .size ≡ logSize (run (empty bs) rs .taken))
+pub appends-build : (bs : List ℕ) (rs : List (List ℕ)) → 1 ≤ length (run digestOf (empty bs) rs .taken)
+    → Log (run digestOf (empty bs) rs .taken)
+    × Begins digestOf (run digestOf (empty bs) rs .bytes) (run digestOf (empty bs) rs .taken)
+    × (run digestOf (empty bs) rs .size ≡ logSize (run digestOf (empty bs) rs .taken))
 appends-build bs rs some =
     let s = run-sound bs rs in
     (record { some = some; few = s .few; short = s .short }, s .begins, s .size)

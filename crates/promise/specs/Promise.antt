@@ -98,7 +98,7 @@ module _ (digest : List ℕ → List ℕ) (rs : List (List ℕ)) (root bs : List
 
 -- of every log, with its size, any buffer that begins with its nodes, and its root, which is what the log's own call answers (`root-of-log`)
 abbrev pub OfEveryLog : (List (List ℕ) → List ℕ → List ℕ → Type 0) → Type 0
-OfEveryLog Says = (rs : List (List ℕ)) → Log rs → (bs : List ℕ) → Begins bs rs → Says rs (rootOutcome (logSize rs) bs .digest) bs
+OfEveryLog Says = (rs : List (List ℕ)) → Log rs → (bs : List ℕ) → Begins digestOf bs rs → Says rs (rootOutcome digestOf (logSize rs) bs .digest) bs
 
 -- `letter-accepted`: our letters are accepted
 abbrev pub LetterAccepted : Type 0

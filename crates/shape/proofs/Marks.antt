@@ -71,3 +71,8 @@ passed = tt
 -- row k of the table, counted from 0, is example M(k+1), and it holds
 pub marked-says : (k : ℕ) → k < length marked → Says (getD marked k (none 2))
 marked-says k p = every-says marked (none 2) k passed p
+
+-- there are sixteen rows
+pub marked-all : length marked ≡ 16
+unfolding marked
+marked-all = refl

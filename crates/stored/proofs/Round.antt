@@ -10,10 +10,10 @@ use Rattle.wire.specs.Numbers.{Bytes}
 use Rattle.wire.proofs.Parts.{part-length}
 use Rattle.wire.proofs.Splices.{splice-front}
 use Rattle.order.proofs.Laws.{passes, accepted}
-use Rattle.stored.specs.Nodes.{innerBytes, leafBytes, statedIn}
+use Rattle.stored.specs.Nodes.{innerBytes, leafBytes, statedIn, recordIn}
 use Rattle.wire.specs.Writers.{WriteOutcome, writeRefused, writeDone}
 use Rattle.stored.specs.Write.{leafOrder, innerOrder, leafOutcome, innerOutcome}
-use Rattle.stored.specs.Read.{inner, leaf, innerRead, leafRead, readOutcome, recordIn}
+use Rattle.stored.specs.Read.{inner, leaf, innerRead, leafRead, readOutcome}
 use Rattle.stored.proofs.Fields.{inner-digest, leaf-length, leaf-digest, leaf-stated, leaf-record, inner-whole, leaf-whole}
 use Rattle.stored.proofs.Ends.{inner-node, leaf-node, of-inner, of-leaf}
 
@@ -54,7 +54,8 @@ module _ (digest : List ℕ → List ℕ) (sized : (bs : List ℕ) → length (d
       let a = accepted (λ w. w .number) (writeRefused out) (leafOrder rec out) (writeDone node out) (λ n. refl) refl refl tt z in
       let e : reported (leafOutcome digest rec out) ≡ node = rw (a .1) (reported-done node out) in
       let r = leaf-read rec (a .0 .0) in
-      (rw e r, rw (e, r) (leaf-record digest rec (sized rec)))
+      let k : statedIn node ≡ length rec = leaf-stated digest rec (sized rec) (omega (arith, a .0 .0)) in
+      (rw e r, rw (e, k) (leaf-record digest rec (sized rec)))
 
 -- ---- what is read is written again
 
@@ -73,6 +74,6 @@ pub leaf-again : (digest : List ℕ → List ℕ) (bs out : List ℕ) → Bytes 
 unfolding leafOutcome recordIn
 leaf-again digest bs out b k t l =
     let n = of-leaf bs k in
-    let e : leafBytes digest (recordIn bs) ≡ bs = rw (n .outcome) (leaf-whole bs b (n .flag) (n .exact) digest (rw (n .outcome) at t)) in
-    let m : length (recordIn bs) ≡ statedIn bs = rw (n .outcome) (part-length 37 (statedIn bs) bs) in
+    let e : leafBytes digest (recordIn bs) ≡ bs = (leaf-whole bs b (n .flag) (n .exact) digest (rw (n .outcome) at t)) in
+    let m : length (recordIn bs) ≡ statedIn bs = part-length 37 (statedIn bs) bs in
     sym (passes (writeRefused out) (leafOrder (recordIn bs) out) _ (ap (λ (x : List ℕ). writeDone x out) (sym e)) (search needs))

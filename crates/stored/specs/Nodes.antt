@@ -28,3 +28,7 @@ digestIn bs = part 1 32 bs
 -- the stated record length of a leaf
 unfoldable pub statedIn : List ℕ → ℕ
 statedIn bs = number (part 33 4 bs)
+
+-- the record of a leaf, of the stated length
+unfoldable pub recordIn : List ℕ → List ℕ
+recordIn bs = part 37 (statedIn bs) bs

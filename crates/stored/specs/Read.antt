@@ -5,7 +5,7 @@ use Prim.Native.Nat.{ℕ, _+_}
 use denote.Ref.{RefT, now}
 use lib.Dec.{eqb}
 use lib.ListN.{length}
-use Rattle.wire.specs.Runs.{zeros, part}
+use Rattle.wire.specs.Runs.{zeros}
 use Rattle.wire.specs.Lent.{Part, partOf}
 use Rattle.order.specs.Order.{Refusal, _if_, _under_, _above_, _is-not_, verdict}
 use Rattle.stored.specs.declared.Node.{Node}
@@ -66,10 +66,6 @@ readDone bs = elim (eqb (flagIn bs) 0) [ true ↦ innerRead (digestIn bs) | fals
 -- reading a node: a refusal has the digest all zero
 unfoldable pub readOutcome : List ℕ → ReadOutcome
 readOutcome bs = verdict (readRefused (zeros 32)) (readOrder bs) (readDone bs)
-
--- the record's bytes
-unfoldable pub recordIn : List ℕ → List ℕ
-recordIn bs = part (readOutcome bs .start) (readOutcome bs .length) bs
 
 -- the record as a part of the bytes read
 abbrev pub recordPart : RefT (List ℕ) → Part

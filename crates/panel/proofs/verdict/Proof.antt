@@ -1,10 +1,28 @@
 -- `panel::verdict` meets its contract: the digits are those of the number that the checker gives.
+use mathlib.Core.Path.{_≡_, ap, _∙_}
+use mathlib.Core.List.{List}
+use Prim.Native.Nat.{ℕ}
+use lib.ListN.{take}
 use borrow.Author.Needs.{needs}
+use Rattle.digest.specs.Digest.{digestOf}
+use Rattle.checker.specs.Outcome.{judged}
+use Rattle.checker.proofs.Panel.{front-judged}
 use Rattle.panel.proofs.verdict.Statement.{statement}
 use Rattle.panel.proofs.verdict.Tie as tie
 
+same : (front whole : List ℕ) → front ≡ take 17469 whole → judged digestOf front ≡ judged digestOf whole
+same front whole e = ap (judged digestOf) e ∙ front-judged digestOf whole
+
 returns : tie.Need-returns
-returns c = rw (← c .before .before .judge .ensures) (c .decimal .ensures)
+returns c =
+    let d = c .decimal .ensures in
+    let j = c .before .before .judge .ensures in (
+      d .0,
+      (
+        (λ whole e. let k = j ∙ same _ whole e in rw (← k) (d .1 .0)),
+        (λ whole e. let k = j ∙ same _ whole e in rw (← k) (d .1 .1)),
+      ),
+    )
 
 pub verdict-spec : {M : Type 1} → statement M
 verdict-spec =

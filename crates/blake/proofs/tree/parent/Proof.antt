@@ -2,7 +2,8 @@
 use mathlib.Core.Path.{ap, _∙_}
 use mathlib.Core.List.{List}
 use Prim.Native.Nat.{ℕ, _+_}
-use Rattle.blake.specs.Blake.{compressed, parented}
+use Rattle.compression.specs.Compression.{compressed}
+use Rattle.blake.specs.Blake.{parented}
 use borrow.Author.Needs.{needs}
 use Rattle.blake.proofs.tree.parent.Statement.{statement}
 use Rattle.blake.proofs.tree.parent.Tie as tie

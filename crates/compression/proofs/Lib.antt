@@ -1,0 +1,8 @@
+-- Laws.
+pub mod Builds
+pub mod Fill
+pub mod Turns
+pub mod Order
+pub mod Rounds
+pub mod Quarters
+pub mod Blocks

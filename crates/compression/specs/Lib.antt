@@ -1,0 +1,3 @@
+-- The compression.
+pub mod Build
+pub mod Compression

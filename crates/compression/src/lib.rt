@@ -1,0 +1,3 @@
+// The compression.
+pub mod compress;
+pub mod word;
