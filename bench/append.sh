@@ -3,8 +3,8 @@
 # The log has 2^10, 2^16 or 2^20 leaves and a few more, so that the append has no merge, one or five. Counted as by bench/digest.sh.
 # Exit status: 0 where every limit is met, 1 where one is missed or two nodes differ, 2 where nothing could be measured.
 set -eu
-# shellcheck source=bench/common.sh
-. "$(dirname "$0")/common.sh"
+# shellcheck source=shell/common.sh
+. "$(dirname "$0")/../shell/common.sh"
 # shellcheck source=bench/count.sh
 . "$(dirname "$0")/count.sh"
 find_sources

@@ -3,8 +3,8 @@
 # The log has 1, 2^10, 2^20 or 2^32 leaves; nobody has to build it, since any items have a root. Counted as by bench/digest.sh.
 # Exit status: 0 where the limit is met, 1 where it is missed or two roots differ, 2 where nothing could be measured.
 set -eu
-# shellcheck source=bench/common.sh
-. "$(dirname "$0")/common.sh"
+# shellcheck source=shell/common.sh
+. "$(dirname "$0")/../shell/common.sh"
 # shellcheck source=bench/count.sh
 . "$(dirname "$0")/count.sh"
 find_sources

@@ -5,8 +5,8 @@
 # the kit's emulator runs one instruction at a time, and its trace is counted. What is missing is installed.
 # Exit status: 0 where every limit is met, 1 where one is missed or two digests differ, 2 where nothing could be measured.
 set -eu
-# shellcheck source=bench/common.sh
-. "$(dirname "$0")/common.sh"
+# shellcheck source=shell/common.sh
+. "$(dirname "$0")/../shell/common.sh"
 # shellcheck source=bench/count.sh
 . "$(dirname "$0")/count.sh"
 find_sources

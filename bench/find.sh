@@ -4,8 +4,8 @@
 # nodes that the letter speaks of are made. Counted as by bench/digest.sh.
 # Exit status: 0 where the limit is met, 1 where it is missed or an answer is not what it should be, 2 where nothing could be measured.
 set -eu
-# shellcheck source=bench/common.sh
-. "$(dirname "$0")/common.sh"
+# shellcheck source=shell/common.sh
+. "$(dirname "$0")/../shell/common.sh"
 # shellcheck source=bench/count.sh
 . "$(dirname "$0")/count.sh"
 find_sources

@@ -1,21 +1,21 @@
 #!/bin/sh
 # hosts/build.sh [test]: proves and builds the library, and builds the programs of this folder into target/hosts, where a source is newer.
-#   keeper   the host             bridge   the calls over a pipe, for tools/outside.py
+#   keeper   the host             bridge   the calls over a pipe, for outside/outside.py
 # and for hosts/test.sh
 #   lossy    the host on a disk that loses what was not synced       checked   the host under the compiler's sanitizers, where it has them
 # They are x86-64 code. There any C compiler does, CC or cc; elsewhere it is Debian's cross compiler, and what stands in target/hosts starts the
 # program under the kit's emulator.
 # Exit status: 0 where all is built, 2 where it could not be.
 set -eu
-# shellcheck source=bench/common.sh
-. "$(dirname "$0")/../bench/common.sh"
+# shellcheck source=shell/common.sh
+. "$(dirname "$0")/../shell/common.sh"
 here=$top/hosts
 out=$top/target/hosts
 flags='-std=c11 -D_DEFAULT_SOURCE -O2 -g -Wall -Wextra -Werror'
 
 # newer PROGRAM: whether it is there, and no source has changed since
 newer() {
-    [ -x "$out/$1" ] && [ -z "$(find "$here" "$top/crates" "$top/crates.txt" "$top/include" -type f -newer "$out/$1" | head -n 1)" ]
+    [ -x "$out/$1" ] && [ -z "$(find "$here" "$top/outside/bridge.c" "$top/crates" "$top/crates.txt" "$top/include" -type f -newer "$out/$1" | head -n 1)" ]
 }
 
 find_compiler() {
@@ -62,7 +62,7 @@ static_library keeper
 mkdir -p "$out"
 # shellcheck disable=SC2086
 compile keeper $host
-compile bridge bridge.c
+compile bridge "$top/outside/bridge.c"
 if [ "$last" = lossy ]; then
     compile_checked
     # shellcheck disable=SC2086

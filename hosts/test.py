@@ -16,7 +16,7 @@ import unittest
 from pathlib import Path
 
 TOP = Path(__file__).resolve().parent.parent
-sys.path.insert(0, str(TOP / "tools"))
+sys.path.insert(0, str(TOP / "second"))
 from expected.given import run_record  # noqa: E402
 from rules import letters, log, shape  # noqa: E402
 from rules.log import LONGEST_RECORD, NODE  # noqa: E402

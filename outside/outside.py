@@ -1,7 +1,7 @@
 #!/usr/bin/env python3
 """The calls for C from outside: the library and the second program answer the same thousands of true, random and damaged inputs.
 
-A C program, hosts/bridge.c, makes each call on buffers that lie against forbidden pages and hands back the number and every byte that it lent,
+A C program, outside/bridge.c, makes each call on buffers that lie against forbidden pages and hands back the number and every byte that it lent,
 result variables too. What the second program says is compared with all of it. The finder's "records" and "pair" are two strings of one digest:
 nobody has such strings, so of its answers only "same" and the refusals are met here.
 
@@ -20,12 +20,14 @@ import sys
 from collections import Counter, namedtuple
 from pathlib import Path
 
-from inputs import cases
-from inputs.world import Case, digest, flipped, u32, u64
-from rules import finder, letters, log, shape, stored
-from rules.log import NODE
-
 TOP = Path(__file__).resolve().parent.parent
+sys.path.insert(0, str(TOP / "second"))
+
+from inputs import cases  # noqa: E402
+from inputs.world import Case, digest, flipped, u32, u64  # noqa: E402
+from rules import finder, letters, log, shape, stored  # noqa: E402
+from rules.log import NODE  # noqa: E402
+
 ROUNDS = 8000
 
 # An answer: 01's number, the parts at return, and whether a byte beside them was changed.
@@ -206,7 +208,7 @@ def reported(given, at, case, lines):
     if lines:
         print(f"outside: keeper_{case.call}, case {at} of seed {given.seed}: the answers differ")
         print("\n".join([*(f"  {line}" for line in lines), "what was given:", *lines_of(case, given.only is not None)]))
-        print(f"once more, with all bytes: tools/outside.py --seed {given.seed} --rounds {given.rounds} --only {at}")
+        print(f"once more, with all bytes: outside/outside.py --seed {given.seed} --rounds {given.rounds} --only {at}")
     return bool(lines)
 
 

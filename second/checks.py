@@ -10,7 +10,7 @@ from rules.letters import LETTER_HEAD, WHOLE_LETTER, check_letter, index_in, ite
 from rules.log import LONGEST_RECORD, NODE, append, folded, node, plain_root, root
 from rules.shape import items_of, leaf_count, leaf_position, nodes_of, size_of, trailing_ones
 
-PUBLISHED = Path(__file__).resolve().parent / "vectors" / "blake3-published.txt"
+PUBLISHED = Path(__file__).resolve().parent.parent / "vectors" / "blake3-published.txt"
 PUBLISHED_KEY = b"whats the Elvish word for friend"
 
 

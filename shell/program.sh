@@ -1,4 +1,4 @@
-# What the scripts of this folder share: a program of the crates, proved and built first where that is not done.
+# What the scripts of bin/ and outside/ share: a program of the crates, proved and built first where that is not done.
 # shellcheck shell=sh
 top=$(cd "$(dirname "$0")/.." && pwd -P)
 

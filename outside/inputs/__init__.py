@@ -1,4 +1,4 @@
-"""The inputs that tools/outside.py puts before the calls for C: true ones, damaged ones, random ones, each case from its number alone.
+"""The inputs that outside/outside.py puts before the calls for C: true ones, damaged ones, random ones, each case from its number alone.
 
 The fixed cases are the same for every seed: numbers near the start and at the edges, letters and stored nodes with every byte damaged, room one
 byte short, and for each call every two refusals at once. The random ones take a true input and change some of its parts, or none.

@@ -1,4 +1,4 @@
-# What the scripts of this folder and of hosts/ share: the repository, the kit, the tools for x86-64 and the packages that bring them.
+# What the scripts of bench/ and hosts/ share: the repository, the kit, the tools for x86-64 and the packages that bring them.
 # shellcheck shell=sh disable=SC2034
 
 say() { echo "$(basename "$0"): $*" >&2; }
