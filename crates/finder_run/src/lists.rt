@@ -30,7 +30,7 @@ fn show_compare(ours: &[u8], theirs: &[u8], rec: &[u8], other: &[u8], one: u64, 
     let mut second = buffer_of(6);
     let room = room_of(one);
     let other_room = room_of(two);
-    let f = finder::compare(
+    let f = difference::compare(
         ours,
         theirs,
         rec,

@@ -1,7 +1,7 @@
 // The logs that are compared with letters, the two buffers that are lent, and what the finder makes of a letter, printed.
 ghost use Prim.Native.Nat.{_≤_};
-use finder::Finding;
-use finder::Found;
+use difference::Finding;
+use difference::Found;
 use runs::given::fill;
 use runs::given::front;
 use runs::given::length_of;
@@ -19,7 +19,7 @@ pub(crate) fn grow(size: u64, k: usize, nodes: &mut [u8; 512]) -> u64 {
 // The letter of an index, in the first bytes of an output; its length.
 pub(crate) fn letter_of(size: u64, index: usize, nodes: &[u8; 512], out: &mut [u8]) -> usize {
     let rec = record_of(index);
-    let w = writer::write_letter(
+    let w = letter_writer::write_letter(
         size,
         index as u64,
         front(&rec, length_of(index)),
@@ -87,7 +87,7 @@ pub(crate) fn show_find(size: u64, nodes: &[u8], rec: &[u8], letter: &[u8], one:
     let mut second = buffer_of(6);
     let room = room_of(one);
     let other_room = room_of(two);
-    let f = finder::find(
+    let f = letter_finder::find(
         size,
         nodes,
         rec,

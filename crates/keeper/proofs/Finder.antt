@@ -6,14 +6,15 @@ use Prim.Native.Nat.{ℕ}
 use Rattle.digest.specs.Digest.{digestOf}
 use Rattle.order.specs.Order.{Refusal}
 use Rattle.order.proofs.Laws.{refusal}
-use Rattle.wire.specs.Runs.{differ}
-use Rattle.log.specs.Outcomes.{leaves}
+use Rattle.wire.specs.Slices.{differ}
+use Rattle.shape.specs.Sizes.{leaves}
 use Rattle.letter.specs.Bytes.{recordIn}
-use Rattle.finder.specs.declared.Found.{Found}
-use Rattle.finder.specs.Outcome.{FindOutcome, found, answerOf, findRefused, findDone, firstDifference, findOrder, findOutcome}
-use Rattle.finder.proofs.Settled.{done-zero}
-use Rattle.finder.proofs.Parts.{find-numbered}
-use Rattle.keeper.specs.Finder.{FindLeft, findLeft, answerNumber, findWritten, findCall}
+use Rattle.difference.specs.declared.Found.{Found}
+use Rattle.difference.specs.Outcome.{FindOutcome, found, findRefused, findDone}
+use Rattle.letter_finder.specs.Outcome.{firstDifference, findOrder, findOutcome}
+use Rattle.difference.proofs.Settled.{done-zero}
+use Rattle.letter_finder.proofs.Parts.{find-numbered}
+use Rattle.keeper.specs.Finder.{FindLeft, findLeft, findingNumber, findWritten, findCall}
 use Rattle.keeper.proofs.Kept.{kept-refused, kept-done}
 
 module _ (size : ℕ) (bs rec letter first second : List ℕ) (old : ℕ) (r : Found) (x y : List ℕ)
@@ -43,7 +44,7 @@ module _ (size : ℕ) (bs rec letter first second : List ℕ) (old : ℕ) (r : F
       ∙ kept-refused number (findRefused first second) order done (λ n. refl) zero-done e kept findWritten k
 
   -- n is the answer as C has it
-  pub find-done : (n : ℕ) → n ≡ answerNumber (answerOf (r .finding)) → r .number ≡ 0
+  pub find-done : (n : ℕ) → n ≡ findingNumber (r .finding) → r .number ≡ 0
       → findLeft 0 n x y ≡ findCall size bs rec letter first second old
   unfolding findOutcome findCall
   find-done n p z =

@@ -10,7 +10,7 @@ use borrow.Author.Needs.{needs}
 use Rattle.digest.specs.Digest.{digestOf, digest-length}
 use Rattle.order.specs.Order.{Refusal, verdict}
 use Rattle.order.proofs.Laws.{numbered, refuses, passes, refusal, accepted}
-use Rattle.wire.specs.Runs.{splice, written}
+use Rattle.wire.specs.Slices.{splice, written}
 use Rattle.wire.specs.declared.Written.{Written}
 use Rattle.wire.specs.Writers.{WriteOutcome, wrote, writeRefused, writeDone}
 use Rattle.wire.proofs.Splices.{written-fits}

@@ -4,9 +4,9 @@ use mathlib.Core.Path.{_≡_, refl}
 use mathlib.Core.List.{List}
 use Prim.Native.Nat.{ℕ}
 use Rattle.digest.specs.Digest.{digestOf}
-use Rattle.checker.specs.declared.Checked.{Checked}
-use Rattle.checker.specs.Outcome.{CheckOutcome, checked, checkRefused, checkDone, checkOrder, checkOutcome}
-use Rattle.checker.proofs.Accepted.{check-numbered}
+use Rattle.letter_checker.specs.declared.Checked.{Checked}
+use Rattle.letter_checker.specs.Outcome.{CheckOutcome, checked, checkRefused, checkDone, checkOrder, checkOutcome}
+use Rattle.letter_checker.proofs.Accepted.{check-numbered}
 use Rattle.keeper.specs.Letters.{checkLeft, letterCheckCall}
 use Rattle.keeper.proofs.Kept.{kept-refused, kept-done}
 

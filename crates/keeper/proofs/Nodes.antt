@@ -10,7 +10,7 @@ use lib.ListN.{length}
 use borrow.Author.Needs.{needs}
 use Rattle.order.specs.Order.{Test, _if_, _under_, _above_, _is-not_, verdict}
 use Rattle.order.proofs.Laws.{numbered, refuses, passes, accepted, late}
-use Rattle.wire.specs.Runs.{zeros, part, written}
+use Rattle.wire.specs.Slices.{zeros, part, written}
 use Rattle.wire.specs.declared.Written.{Written}
 use Rattle.wire.specs.Writers.{WriteOutcome, wrote, writeRefused, writeDone}
 use Rattle.wire.proofs.Parts.{part-length, part-whole}

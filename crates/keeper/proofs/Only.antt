@@ -5,7 +5,7 @@ use Prim.Native.Nat.{ℕ}
 use Rattle.shape.specs.Answers.{Answer}
 use Rattle.log.specs.Outcomes.{AppendOutcome}
 use Rattle.wire.specs.Writers.{WriteOutcome}
-use Rattle.checker.specs.Outcome.{CheckOutcome}
+use Rattle.letter_checker.specs.Outcome.{CheckOutcome}
 use Rattle.keeper.specs.Calls.{answered, appendLeft, Filled, filled, writeLeft}
 use Rattle.keeper.specs.Nodes.{ReadLeft, readLeft}
 use Rattle.keeper.specs.Letters.{checkLeft}

@@ -7,7 +7,7 @@ use lib.ListN.{length}
 use Rattle.digest.specs.Digest.{digestOf}
 use Rattle.order.specs.Order.{Refusal, _if_, _under_, verdict}
 use Rattle.shape.specs.Answers.{Answer}
-use Rattle.wire.specs.Runs.{splice}
+use Rattle.wire.specs.Slices.{splice}
 use Rattle.wire.specs.Writers.{WriteOutcome, writeDone}
 use Rattle.log.specs.Outcomes.{AppendOutcome, appendOrder, appendDone, rootOrder, rootDone}
 

@@ -3,17 +3,20 @@ use mathlib.Core.List.{List}
 use Prim.Native.Nat.{ℕ}
 use Rattle.digest.specs.Digest.{digestOf}
 use Rattle.order.specs.Order.{verdict}
-use Rattle.wire.specs.Runs.{differ}
-use Rattle.log.specs.Outcomes.{leaves}
+use Rattle.wire.specs.Slices.{differ}
+use Rattle.shape.specs.Sizes.{leaves}
 use Rattle.letter.specs.Bytes.{recordIn}
-use Rattle.finder.specs.Outcome.{Answer, none, same, records, pair, FindOutcome, firstDifference, findOrder, findDone}
+use Rattle.difference.specs.declared.Finding.{Finding}
+use Rattle.difference.specs.declared.Finding.the-variants.{Nothing, Same, Records, Pair}
+use Rattle.difference.specs.Outcome.{FindOutcome, findDone}
+use Rattle.letter_finder.specs.Outcome.{firstDifference, findOrder}
 
--- the answers as C has them
-abbrev pub answerNumber : Answer → ℕ
-answerNumber none = 0
-answerNumber same = 1
-answerNumber records = 2
-answerNumber pair = 3
+-- what is found, as C has it
+abbrev pub findingNumber : Finding → ℕ
+findingNumber Nothing = 0
+findingNumber Same = 1
+findingNumber Records = 2
+findingNumber Pair = 3
 
 -- 01's number, what is found, and the two buffers, at return: the first is for the log's input, the second for the letter's
 pub record FindLeft : Type 0 where
@@ -25,9 +28,9 @@ pub record FindLeft : Type 0 where
 abbrev pub findLeft : ℕ → ℕ → List ℕ → List ℕ → FindLeft
 findLeft number found first second = record { number = number; found = found; first = first; second = second }
 
--- done: the answer's number, and the buffers as the finder leaves them
+-- done: what is found, as a number, and the buffers as the finder leaves them
 abbrev pub findWritten : FindOutcome → FindLeft
-findWritten o = findLeft 0 (answerNumber (o .answer)) (o .first) (o .second)
+findWritten o = findLeft 0 (findingNumber (o .finding)) (o .first) (o .second)
 
 -- the finder's order: 1, 10, 4, 7 (short), 8, 5, 15, 3, 7 (exact), 9, 3 and 13 for the log's own record, 14, 6; the result variable held `old`
 unfoldable pub findCall : ℕ → List ℕ → List ℕ → List ℕ → List ℕ → List ℕ → ℕ → FindLeft

@@ -4,8 +4,8 @@ use Prim.Native.Nat.{ℕ}
 use Rattle.digest.specs.Digest.{digestOf}
 use Rattle.order.specs.Order.{verdict}
 use Rattle.wire.specs.Writers.{WriteOutcome}
-use Rattle.writer.specs.Outcome.{ourLetter, writeOrder}
-use Rattle.checker.specs.Outcome.{CheckOutcome, checkOrder, checkDone}
+use Rattle.letter_writer.specs.Outcome.{ourLetter, writeOrder}
+use Rattle.letter_checker.specs.Outcome.{CheckOutcome, checkOrder, checkDone}
 use Rattle.keeper.specs.Calls.{writeCall}
 
 -- ---- Written

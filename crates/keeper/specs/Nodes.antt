@@ -4,7 +4,7 @@ use Prim.Native.Nat.{ℕ}
 use lib.ListN.{length}
 use Rattle.digest.specs.Digest.{digestOf}
 use Rattle.order.specs.Order.{_if_, _is-not_, verdict}
-use Rattle.wire.specs.Runs.{splice}
+use Rattle.wire.specs.Slices.{splice}
 use Rattle.wire.specs.Writers.{WriteOutcome}
 use Rattle.stored.specs.Nodes.{innerBytes, leafBytes}
 use Rattle.stored.specs.Write.{leafOrder, innerOrder}

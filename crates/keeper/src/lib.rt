@@ -5,9 +5,8 @@ ghost use Rattle.shape.specs.Sizes.{sizeAnswer, positionAnswer, countAnswer};
 ghost use Rattle.keeper.specs.Calls.{answered, over, appendLeft, appendCall, filled, digestCall, rootCall, writeLeft};
 ghost use Rattle.keeper.specs.Nodes.{storeLeafCall, storeInnerCall, readLeft, readCall};
 ghost use Rattle.keeper.specs.Letters.{letterWriteCall, checkLeft, letterCheckCall};
-ghost use Rattle.finder.specs.Outcome.{answerOf};
-ghost use Rattle.keeper.specs.Finder.{answerNumber, findLeft, findCall};
-use finder::Finding;
+ghost use Rattle.keeper.specs.Finder.{findingNumber, findLeft, findCall};
+use difference::Finding;
 use shape::Counted;
 use shape::Placed;
 use shape::Sized;
@@ -184,7 +183,7 @@ pub extern "C" fn keeper_letter_write(
     ensures { λ r. ⌜ writeLeft r (now (length .exit)) (now (out .exit))
         ≡ letterWriteCall size index (now (rec .entry)) (now (nodes .entry)) (now (out .entry)) (now (length .entry)) ⌝ }
 {
-    let w = writer::write_letter(size, index, rec, nodes, out);
+    let w = letter_writer::write_letter(size, index, rec, nodes, out);
     if w.number != 0 {
         return w.number;
     }
@@ -206,7 +205,7 @@ pub extern "C" fn keeper_letter_check(
         ≡ letterCheckCall size (now (root .entry)) (now (letter .entry))
         (now (index .entry)) (now («record_at» .entry)) (now («record_len» .entry)) ⌝ }
 {
-    let c = checker::check(size, root, letter);
+    let c = letter_checker::check(size, root, letter);
     if c.number != 0 {
         return c.number;
     }
@@ -218,7 +217,7 @@ pub extern "C" fn keeper_letter_check(
 
 // What the finder finds, as C has it: 1 for "same", 2 for "records", 3 for "pair".
 fn number_of(finding: Finding) -> u32
-    ensures { λ r. ⌜ r ≡ answerNumber (answerOf finding) ⌝ }
+    ensures { λ r. ⌜ r ≡ findingNumber finding ⌝ }
 {
     match finding {
         Finding::Nothing => 0,
@@ -244,7 +243,7 @@ pub extern "C" fn keeper_find(
         ≡ findCall size (now (nodes .entry)) (now (rec .entry)) (now (letter .entry))
         (now («log_input» .entry)) (now («letter_input» .entry)) (now (found .entry)) ⌝ }
 {
-    let f = finder::find(size, nodes, rec, letter, log_input, letter_input);
+    let f = letter_finder::find(size, nodes, rec, letter, log_input, letter_input);
     if f.number != 0 {
         return f.number;
     }

@@ -7,31 +7,26 @@ use native.Mathlib.Decide.{decLe, decLt}
 use native.Mathlib.Omega.{arith}
 use borrow.Author.Tests.{lt-ltb, le-ltb, le-leb, lt-leb}
 use lib.ListN.{length, length-map}
-use Rattle.wire.proofs.Parts.{part-length}
 use Rattle.shape.specs.Sizes.{heightOf}
-use Rattle.shape.specs.Tree.{Each}
+use Rattle.wire.specs.Slices.{Each, joined}
 use Rattle.shape.specs.Folded.{tree}
 use Rattle.shape.specs.Nodes.{Holds, nodes}
 use Rattle.shape.specs.Positions.{top, behind, peaksIn, alone, positionsIn, itemPositions, fold}
 use Rattle.shape.specs.Letter.{way, items}
-use Rattle.shape.proofs.Each.{each-append}
+use Rattle.wire.proofs.Each.{each-append}
 use Rattle.shape.proofs.Heights.{height-holds}
 use Rattle.shape.proofs.Peaks.{peaks-some}
 use Rattle.shape.proofs.Positions.{positions-one, positions-low, positions-left, positions-right, positions-past}
 use Rattle.shape.proofs.Reading.{items-read, positions-length}
-use Rattle.log.specs.Nodes.{nodeIn, joined}
-use Rattle.log.proofs.Joined.{joined-length}
+use Rattle.nodes.specs.Nodes.{nodeIn}
+use Rattle.wire.proofs.Joined.{joined-length}
+use Rattle.nodes.proofs.Joined.{node-length}
 use Rattle.letter.specs.Items.{itemCount, itemsOf}
 
 -- as many as 01 lists
 pub items-counted : (n i : ℕ) → i < n → length (itemPositions n i) ≡ itemCount n i
 unfolding itemCount
 items-counted n i p = positions-length n i p
-
--- a node has 32 bytes, wherever it is
-pub node-length : (bs : List ℕ) (p : ℕ) → length (nodeIn bs p) ≡ 32
-unfolding nodeIn
-node-length bs p = part-length _ 32 bs
 
 module _ (digest : List ℕ → List ℕ) (bs : List ℕ) where
   -- the items of leaf i of n leaves, n at most 2^h, whose nodes begin at position s

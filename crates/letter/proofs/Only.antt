@@ -2,8 +2,8 @@
 use mathlib.Core.Path.{_≡_}
 use Rattle.order.proofs.Laws.{determined}
 use Rattle.letter.specs.declared.Fields.{Fields}
-use Rattle.letter.specs.Order.{FieldsOutcome, fields}
+use Rattle.letter.specs.Order.{FieldsOutcome, takenApart}
 
-pub fields-only : (outcome : FieldsOutcome) {r s : Fields} → fields r ≡ outcome → fields s ≡ outcome → r ≡ s
+pub fields-only : (outcome : FieldsOutcome) {r s : Fields} → takenApart r ≡ outcome → takenApart s ≡ outcome → r ≡ s
 fields-only =
-    determined fields (λ r s e i. record { number = e i .number; index = e i .index; stated = e i .stated; items = e i .items })
+    determined takenApart (λ r s e i. record { number = e i .number; index = e i .index; start = e i .start; end = e i .end })

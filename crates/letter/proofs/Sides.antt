@@ -4,19 +4,18 @@ use mathlib.Core.List.{List, [], _∷_, _++_}
 use Prim.Native.Nat.{ℕ, _+_, _*_}
 use native.Mathlib.Omega.{arith}
 use lib.ListN.{length}
-use Rattle.wire.specs.Runs.{part}
+use Rattle.wire.specs.Slices.{part, rowsFrom}
 use Rattle.digest.specs.Digest.{digestOf}
 use Rattle.shape.specs.Tree.{Tree, tip, fork, Turn, left, right, past, root}
 use Rattle.shape.specs.Sizes.{heightOf}
 use Rattle.shape.specs.Letter.{wayIn, way, fill}
-use Rattle.letter.specs.Bytes.{digestsFrom}
 use Rattle.letter.specs.Items.{itemCount, treeOf}
-use Rattle.letter.proofs.Digests.{digests-first, digests-but-last, digests-last, digests-but-first}
+use Rattle.wire.proofs.Rows.{digests-first, digests-but-last, digests-last, digests-but-first}
 
 module _ (leaf : List ℕ) (bs : List ℕ) where
   -- the tree along a way, from the items from number `from` on, and its root
   abbrev pub treeBy : List Turn → ℕ → Tree
-  treeBy w from = fill w leaf (digestsFrom (32 * from) (length w) bs)
+  treeBy w from = fill w leaf (rowsFrom 32 (32 * from) (length w) bs)
 
   abbrev pub rootBy : List Turn → ℕ → List ℕ
   rootBy w from = root digestOf (treeBy w from)
@@ -69,8 +68,8 @@ module _ (leaf : List ℕ) (bs : List ℕ) where
 
   -- the whole way, from the height of n leaves down, with a record's digest for the leaf
   pub side-whole : (n i : ℕ) (rec : List ℕ) {h : ℕ} {d : List ℕ} → h ≡ heightOf n → leaf ≡ digestOf rec → d ≡ rootBy (wayIn h n i) 0
-      → d ≡ root digestOf (treeOf digestOf n i rec (digestsFrom 0 (itemCount n i) bs))
+      → d ≡ root digestOf (treeOf digestOf n i rec (rowsFrom 32 0 (itemCount n i) bs))
   unfolding itemCount way
   side-whole n i rec eh el ed =
       ed ∙ ap (λ (h : ℕ). rootBy (wayIn h n i) 0) eh
-      ∙ ap (λ (l : List ℕ). root digestOf (fill (way n i) l (digestsFrom 0 (length (way n i)) bs))) el
+      ∙ ap (λ (l : List ℕ). root digestOf (fill (way n i) l (rowsFrom 32 0 (length (way n i)) bs))) el

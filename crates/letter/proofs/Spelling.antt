@@ -6,15 +6,13 @@ use Prim.Native.Nat.{ℕ, _+_, _*_, _^_, _<_}
 use native.Mathlib.Nat.{zero-add}
 use lib.ListN.{length, length-append}
 use Rattle.wire.specs.Numbers.{be, number, Bytes}
-use Rattle.wire.specs.Runs.{part}
+use Rattle.wire.specs.Slices.{part, Each, joined, rowsFrom}
 use Rattle.wire.proofs.Numbers.{be-length}
 use Rattle.wire.proofs.Parts.{part-length, part-whole, part-field, part-add}
 use Rattle.wire.proofs.Places.{number-field, be-part}
-use Rattle.shape.specs.Tree.{Each}
-use Rattle.log.specs.Nodes.{joined}
-use Rattle.log.proofs.Joined.{joined-length}
-use Rattle.letter.specs.Bytes.{letterBytes, sizeIn, indexIn, statedIn, recordIn, digestsFrom, itemsIn}
-use Rattle.letter.proofs.Digests.{digests-length, digests-each, digests-joined, joined-part}
+use Rattle.wire.proofs.Joined.{joined-length}
+use Rattle.letter.specs.Bytes.{letterBytes, sizeIn, indexIn, statedIn, recordIn, itemsIn}
+use Rattle.wire.proofs.Rows.{digests-length, digests-each, digests-joined, joined-part}
 
 -- k items, each of 32 bytes
 pub items-length : (k : ℕ) (letter : List ℕ) → length (itemsIn k letter) ≡ k
@@ -73,7 +71,7 @@ module _ (size index : ℕ) (rec : List ℕ) (items : List (List ℕ)) where
     items-read-back p =
         let front : List ℕ = be 8 size ++ be 8 index ++ be 4 (length rec) ++ rec in
         let n : length front ≡ 20 + length rec = length-append (be 8 size ++ be 8 index ++ be 4 (length rec)) rec ∙ rw head-length in
-        ap₂ (λ (at : ℕ) (l : List ℕ). digestsFrom at (length items) l) (ap (λ (k : ℕ). 20 + k) stated-read)
+        ap₂ (λ (at : ℕ) (l : List ℕ). rowsFrom 32 at (length items) l) (ap (λ (k : ℕ). 20 + k) stated-read)
         (sym (ap (λ (g : List ℕ). front ++ g) (append-nil (joined items))))
         ∙ digests-joined items front [] (20 + length rec) n p
 

@@ -3,8 +3,7 @@ use mathlib.Core.List.{List, [], _∷_, _++_}
 use Prim.Native.Nat.{ℕ, zero, suc, _+_}
 use lib.ListN.{length}
 use Rattle.wire.specs.Numbers.{be, number}
-use Rattle.wire.specs.Runs.{part}
-use Rattle.log.specs.Nodes.{joined}
+use Rattle.wire.specs.Slices.{part, joined, rowsFrom}
 
 -- ---- as it is put together
 
@@ -13,6 +12,10 @@ unfoldable pub letterBytes : ℕ → ℕ → List ℕ → List (List ℕ) → Li
 letterBytes size index rec items = be 8 size ++ be 8 index ++ be 4 (length rec) ++ rec ++ joined items
 
 -- ---- as it is taken apart
+
+-- what stands before the record: size, index and record length
+abbrev pub head : ℕ
+head = 20
 
 -- the size that it names
 unfoldable pub sizeIn : List ℕ → ℕ
@@ -28,13 +31,8 @@ statedIn letter = number (part 16 4 letter)
 
 -- the record
 unfoldable pub recordIn : List ℕ → List ℕ
-recordIn letter = part 20 (statedIn letter) letter
-
--- k digests in a row, from a place on
-unfoldable pub digestsFrom : ℕ → ℕ → List ℕ → List (List ℕ)
-digestsFrom at zero bs = []
-digestsFrom at (suc k) bs = part at 32 bs ∷ digestsFrom (at + 32) k bs
+recordIn letter = part head (statedIn letter) letter
 
 -- its k items, which follow the record
 unfoldable pub itemsIn : ℕ → List ℕ → List (List ℕ)
-itemsIn k letter = digestsFrom (20 + statedIn letter) k letter
+itemsIn k letter = rowsFrom 32 (head + statedIn letter) k letter

@@ -5,17 +5,21 @@ use mathlib.Core.List.{List, [], map}
 use Prim.Native.Nat.{ℕ, _^_}
 use lib.Dec.{ltb, leb}
 use lib.ListN.{length}
-use Rattle.wire.specs.Runs.{differ}
+use Rattle.wire.specs.Slices.{differ}
 use Rattle.shape.specs.Sizes.{positionAnswer}
 use Rattle.shape.specs.Positions.{itemPositions, fold}
 use Rattle.shape.specs.Tree.{Tree, root}
 use Rattle.shape.specs.Letter.{way, fill}
-use Rattle.log.specs.Nodes.{nodeIn}
+use Rattle.nodes.specs.Nodes.{nodeIn}
 use Rattle.letter.specs.Bytes.{indexIn, recordIn, itemsIn}
 
 -- the number of items for index i of n leaves: one for each turn on the way to it, as many as 01 lists (`items-counted`)
 unfoldable pub itemCount : ℕ → ℕ → ℕ
 itemCount n i = length (way n i)
+
+-- the leaf at index i's place
+abbrev pub leafIn : List ℕ → ℕ → List ℕ
+leafIn bs i = nodeIn bs (positionAnswer i .value)
 
 module _ (digest : List ℕ → List ℕ) where
   -- the items of index i, an index of n leaves, n at most 2^32, from the nodes in a buffer: peaks left of i's peak, tallest first; siblings from
@@ -26,7 +30,7 @@ module _ (digest : List ℕ → List ℕ) where
 
   -- 1 where a record's digest isn't the leaf at its place, else 0
   unfoldable pub foreign : List ℕ → ℕ → List ℕ → ℕ
-  foreign bs i rec = differ (digest rec) (nodeIn bs (positionAnswer i .value))
+  foreign bs i rec = differ (digest rec) (leafIn bs i)
 
   -- the tree that a record and items make on the way to index i of n leaves
   abbrev pub treeOf : ℕ → ℕ → List ℕ → List (List ℕ) → Tree

@@ -1,62 +1,64 @@
-// What a proof letter is: taken apart, its items counted and read from a log's nodes, and its root worked out.
+// What a proof letter is: taken apart, its items counted, and its record held to the leaf.
 ghost use mathlib.Core.Path.{_≡_};
-ghost use Rattle.letter.specs.Order.{fields, fieldsRefused, fieldsOutcome};
+ghost use Rattle.letter.specs.Order.{takenApart, fieldsRefused, fieldsOutcome};
 
 pub mod count;
-pub mod items;
 pub mod leaf;
-pub mod worked;
 
-// What taking a letter apart answers: 01's number, the index, the stated record length and the number of items. A refusal has 0 for these.
+// What stands before the record: size, index and record length.
+pub const HEAD: usize = 20;
+
+// What taking a letter apart answers: the number, the index, and where the record begins and ends. The items follow it. A refusal has 0 for these.
 pub struct Fields {
     pub number: u32,
     pub index: u64,
-    pub stated: usize,
-    pub items: usize,
+    pub start: usize,
+    pub end: usize,
 }
 
 // A refusal.
-fn no_fields(number: u32) -> Fields
-    ensures { λ r. ⌜ fields r ≡ fieldsRefused number ⌝ }
+fn fields_refused(number: u32) -> Fields
+    ensures { λ r. ⌜ takenApart r ≡ fieldsRefused number ⌝ }
 {
     Fields {
         number,
         index: 0,
-        stated: 0,
-        items: 0,
+        start: 0,
+        end: 0,
     }
 }
 
 // Takes a letter apart, for a log of this size with n leaves. Refuses by 7 (under 20), 8, 5, 15, 3, 7 (exact).
 pub fn take_apart(size: u64, n: u64, letter: &[u8]) -> Fields
-    ensures { λ r. ⌜ fields r ≡ fieldsOutcome size n (now (letter .entry)) ⌝ }
+    ensures { λ r. ⌜ takenApart r ≡ fieldsOutcome size n (now (letter .entry)) ⌝ }
 {
     let length = letter.len();
-    if length < 20 {
-        return no_fields(7);
+    if length < HEAD {
+        return fields_refused(7);
     }
     if wire::read8(letter, 0) != size {
-        return no_fields(8);
+        return fields_refused(8);
     }
     let index = wire::read8(letter, 8);
     if n <= index {
-        return no_fields(5);
+        return fields_refused(5);
     }
     let items = count::item_count(n, index) as usize;
     if 32 < items {
-        return no_fields(15);
+        return fields_refused(15);
     }
     let stated = wire::read4(letter, 16) as usize;
     if 16384 < stated {
-        return no_fields(3);
+        return fields_refused(3);
     }
-    if length != 20 + stated + 32 * items {
-        return no_fields(7);
+    let end = HEAD + stated;
+    if length != end + 32 * items {
+        return fields_refused(7);
     }
     Fields {
         number: 0,
         index,
-        stated,
-        items,
+        start: HEAD,
+        end,
     }
 }

@@ -47,7 +47,7 @@ fn show_lengths(
 ) {
     let mut counts = [0u64; 16];
     for n in from..to {
-        let c = checker::check(size, root, front(letter, n));
+        let c = letter_checker::check(size, root, front(letter, n));
         count(&mut counts, c.number);
     }
     show_counts(label, &counts);
@@ -58,7 +58,7 @@ fn flipped(size: u64, root: &[u8; 32], letter: [u8; 400], n: usize, at: usize, b
     let mut other = letter;
     let b = wire::read_byte(&other, at);
     wire::write_byte(&mut other, at, b ^ bits);
-    let c = checker::check(size, root, front(&other, n));
+    let c = letter_checker::check(size, root, front(&other, n));
     c.number
 }
 

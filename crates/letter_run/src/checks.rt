@@ -34,7 +34,7 @@ fn try_check(size: u64, lent: u64, named: u64, index: u64, stated: u64, length: 
     say_numbers(b"check", &row);
     let trusted = root();
     let given = restated(named, index, stated);
-    let c = checker::check(
+    let c = letter_checker::check(
         size,
         front(&trusted, lent as usize),
         front(&given, length as usize),

@@ -1,5 +1,5 @@
 // The logs that letters are of, what is written and checked of them, and how an answer is printed.
-use checker::Checked;
+use letter_checker::Checked;
 use runs::given::fill;
 use runs::given::front;
 use runs::given::length_of;
@@ -33,7 +33,7 @@ pub(crate) fn root_of(size: u64, nodes: &[u8; 1216]) -> [u8; 32] {
 // The letter of an index, in the first bytes of an output; its length.
 pub(crate) fn letter_of(size: u64, index: usize, nodes: &[u8; 1216], out: &mut [u8]) -> usize {
     let rec = record_of(index);
-    let w = writer::write_letter(
+    let w = letter_writer::write_letter(
         size,
         index as u64,
         front(&rec, length_of(index)),

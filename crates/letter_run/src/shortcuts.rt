@@ -23,7 +23,7 @@ fn letter_of(named: u64, index: u64, rec: &[u8], n: u32, items: &[u8]) -> [u8; 1
 fn show_check(label: &[u8], size: u64, root: [u8; 32], letter: &[u8]) {
     let numbers = [size, wire::read8(letter, 0)];
     say_numbers(label, &numbers);
-    show_checked(b":", checker::check(size, &root, letter));
+    show_checked(b":", letter_checker::check(size, &root, letter));
     end_line();
 }
 
@@ -67,7 +67,7 @@ fn show_whole() {
     letter[7] = 1;
     let d = digest::digest_of(b"");
     let root = d.bytes;
-    show_checked(b"one empty record:", checker::check(1, &root, &letter));
+    show_checked(b"one empty record:", letter_checker::check(1, &root, &letter));
     end_line();
 }
 

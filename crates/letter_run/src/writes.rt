@@ -19,9 +19,9 @@ fn write_lent(
     room: usize,
 ) -> Written {
     if room <= out.len() {
-        return writer::write_letter(size, index, rec, nodes, &mut out[..room]);
+        return letter_writer::write_letter(size, index, rec, nodes, &mut out[..room]);
     }
-    writer::write_letter(size, index, rec, nodes, out)
+    letter_writer::write_letter(size, index, rec, nodes, out)
 }
 
 // Writes a letter into an output of which room bytes are lent; prints the number, the length, and whether a byte behind that has changed.

@@ -7,9 +7,9 @@ use native.Mathlib.Omega.{arith}
 use lib.ListN.{length, length-append}
 use Rattle.digest.specs.Digest.{digestOf, digest-length}
 use Rattle.shape.specs.Sizes.{sizeOf, trailingOnes}
-use Rattle.shape.specs.Tree.{Each}
+use Rattle.wire.specs.Slices.{Each}
 use Rattle.shape.specs.Nodes.{climb, newNodes}
-use Rattle.shape.proofs.Each.{each-append}
+use Rattle.wire.proofs.Each.{each-append}
 use Rattle.log.specs.Steps.{up, ups}
 
 pub up-length : (left : ℕ → List ℕ) (j : ℕ) (x : List ℕ) → length x ≡ 32 → length (up left j x) ≡ 32

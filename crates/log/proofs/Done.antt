@@ -6,23 +6,23 @@ use native.Mathlib.Nat.{add-zero}
 use native.Mathlib.Omega.{arith}
 use lib.ListN.{length, take, drop}
 use Rattle.digest.specs.Digest.{digestOf, digest-length}
-use Rattle.wire.specs.Runs.{splice}
+use Rattle.wire.specs.Slices.{splice, joined}
 use Rattle.wire.proofs.Splices.{splice-length, splice-lent}
-use Rattle.shape.specs.Sizes.{sizeOf, trailingOnes, hashCount, heightOf}
+use Rattle.shape.specs.Sizes.{sizeOf, trailingOnes, hashCount, heightOf, leaves}
 use Rattle.shape.specs.Nodes.{newNodes}
 use Rattle.shape.specs.Positions.{peaksIn, peaks, fold}
 use Rattle.shape.proofs.Heights.{height-holds}
 use Rattle.shape.proofs.Appends.{new-length}
-use Rattle.log.specs.Nodes.{nodeIn, foldFrom, joined}
+use Rattle.nodes.specs.Nodes.{nodeIn, foldFrom}
 use Rattle.log.specs.Steps.{Lefts, leftIn, ups}
-use Rattle.log.specs.Outcomes.{leaves, appended, appendDone, rooted, rootDone}
+use Rattle.log.specs.Outcomes.{appended, appendDone, rooted, rootDone}
 use Rattle.log.specs.declared.Appended.{Appended}
 use Rattle.log.specs.declared.Rooted.{Rooted}
-use Rattle.log.proofs.Joined.{joined-length}
+use Rattle.wire.proofs.Joined.{joined-length}
 use Rattle.log.proofs.Climbs.{new-ups, new-sized}
 use Rattle.log.proofs.Writing.{ups-bytes}
-use Rattle.log.proofs.From.{from-any}
-use Rattle.log.proofs.Counting.{Counts, grown-size}
+use Rattle.nodes.proofs.From.{from-any}
+use Rattle.shape.proofs.Counting.{Counts, grown-size}
 
 module _ {size n m : ℕ} (rec bs : List ℕ) (k : Counts size n) (e : m ≡ trailingOnes n) (room : 32 * (size + (1 + m)) ≤ length bs) where
   -- the part from byte 32 × size on, as it was lent and came back

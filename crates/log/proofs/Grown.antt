@@ -8,22 +8,23 @@ use borrow.Author.Needs.{needs}
 use lib.ListN.{length, drop, take-append-drop, length-take, length-map}
 use Rattle.digest.specs.Digest.{digestOf, digest-length}
 use Rattle.order.proofs.Laws.{passes}
-use Rattle.wire.specs.Runs.{splice}
-use Rattle.shape.specs.Sizes.{sizeOf, hashCount}
-use Rattle.shape.specs.Tree.{Each, root}
+use Rattle.wire.specs.Slices.{splice, Each, joined}
+use Rattle.shape.specs.Sizes.{sizeOf, hashCount, leaves}
+use Rattle.shape.specs.Tree.{root}
 use Rattle.shape.specs.Folded.{tree}
 use Rattle.shape.specs.Nodes.{Holds, nodes, newNodes}
 use Rattle.shape.specs.Positions.{peaks, fold}
 use Rattle.shape.proofs.Sizes.{size-suc}
-use Rattle.shape.proofs.Each.{each-map}
+use Rattle.wire.proofs.Each.{each-map}
 use Rattle.shape.proofs.Nodes.{nodes-length, nodes-32}
 use Rattle.shape.proofs.Appends.{append-nodes, new-length}
 use Rattle.shape.proofs.Reading.{root-read}
-use Rattle.log.specs.Nodes.{nodeIn, joined, nodesOf, Begins}
-use Rattle.log.specs.Outcomes.{leaves, appendOrder, appendDone, appendOutcome, rootOrder, rootDone, rootOutcome}
-use Rattle.log.proofs.Joined.{joined-length, joined-append, node-joined}
+use Rattle.nodes.specs.Nodes.{nodeIn, nodesOf, Begins}
+use Rattle.log.specs.Outcomes.{appendOrder, appendDone, appendOutcome, rootOrder, rootDone, rootOutcome}
+use Rattle.wire.proofs.Joined.{joined-length, joined-append}
+use Rattle.nodes.proofs.Joined.{node-joined}
 use Rattle.log.proofs.Climbs.{new-sized}
-use Rattle.log.proofs.Counting.{Counts, counts-size}
+use Rattle.shape.proofs.Counting.{Counts, counts-size}
 
 -- each node has 32 bytes, and there are as many as the size says
 log-32 : (rs : List (List ℕ)) → Each 32 (nodes digestOf (map digestOf rs))

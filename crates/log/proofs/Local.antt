@@ -7,17 +7,18 @@ use native.Mathlib.Decide.{ℕ-discrete}
 use native.Mathlib.Omega.{arith}
 use lib.ListN.{length, take}
 use Rattle.digest.specs.Digest.{digestOf}
-use Rattle.order.specs.Order.{first}
+use Rattle.order.specs.Order.{firstNumber}
 use Rattle.order.proofs.Laws.{Passes, accepted, refusal, number-is}
-use Rattle.wire.specs.Runs.{part, splice}
+use Rattle.wire.specs.Slices.{part, splice, joined}
 use Rattle.wire.proofs.Parts.{part-take}
 use Rattle.wire.proofs.Splices.{splice-none}
 use Rattle.shape.specs.Nodes.{newNodes}
 use Rattle.shape.proofs.Sizes.{size-mono}
 use Rattle.shape.proofs.Appends.{new-local}
-use Rattle.log.specs.Nodes.{nodeIn, joined}
-use Rattle.log.proofs.Counting.{counts-known}
-use Rattle.log.specs.Outcomes.{AppendOutcome, leaves, appendRefused, appendOrder, appendDone, appendOutcome}
+use Rattle.nodes.specs.Nodes.{nodeIn}
+use Rattle.shape.proofs.Counting.{counts-known}
+use Rattle.log.specs.Outcomes.{AppendOutcome, appendRefused, appendOrder, appendDone, appendOutcome}
+use Rattle.shape.specs.Sizes.{leaves}
 
 -- two appends that answer alike and write the same bytes
 pub record Alike (size : ℕ) (rec bs cs : List ℕ) : Type 0 where
@@ -34,14 +35,14 @@ module _ (size : ℕ) (rec bs cs : List ℕ) (l : length bs ≡ length cs) (same
   one-order = rw l
 
   -- the number of an append is that of its order
-  number-first : (xs : List ℕ) → appendOutcome digestOf size rec xs .number ≡ first (appendOrder size rec xs)
+  number-first : (xs : List ℕ) → appendOutcome digestOf size rec xs .number ≡ firstNumber (appendOrder size rec xs)
   unfolding appendOutcome appendDone
   number-first xs =
       number-is (λ (x : AppendOutcome). x .number) (appendRefused size xs) (appendOrder size rec xs) (appendDone digestOf size rec xs) (λ m. refl) refl
       {r = appendOutcome digestOf size rec xs} refl
 
   one-number : appendOutcome digestOf size rec bs .number ≡ appendOutcome digestOf size rec cs .number
-  one-number = number-first bs ∙ ap first one-order ∙ sym (number-first cs)
+  one-number = number-first bs ∙ ap firstNumber one-order ∙ sym (number-first cs)
 
   -- refused: nothing is written
   left-alike : appendOutcome digestOf size rec bs .number ≢ 0 → Alike size rec bs cs

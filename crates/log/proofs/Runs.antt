@@ -12,13 +12,14 @@ use lib.ListN.{length, getD, take, drop, length-append, length-drop}
 use lib.Seq.{take-at, drop-at, drop-drop}
 use Rattle.order.proofs.Laws.{accepted, refusal}
 use Rattle.digest.specs.Digest.{digestOf}
-use Rattle.shape.specs.Sizes.{sizeOf, hashCount}
+use Rattle.shape.specs.Sizes.{sizeOf, hashCount, leaves}
 use Rattle.shape.proofs.Nodes.{nodes-empty}
 use Rattle.shape.proofs.Sizes.{size-zero, size-mono}
-use Rattle.log.specs.Nodes.{nodesOf, joined, Begins}
-use Rattle.log.specs.Outcomes.{AppendOutcome, leaves, appendRefused, appendOrder, appendDone, appendOutcome}
+use Rattle.nodes.specs.Nodes.{nodesOf, Begins}
+use Rattle.wire.specs.Slices.{joined}
+use Rattle.log.specs.Outcomes.{AppendOutcome, appendRefused, appendOrder, appendDone, appendOutcome}
 use Rattle.log.specs.Runs.{Short, State, step, run, empty, Sound}
-use Rattle.log.proofs.Counting.{counts-size}
+use Rattle.shape.proofs.Counting.{counts-size}
 use Rattle.log.proofs.Grown.{nodes-bytes, append-grows}
 
 -- one record more, and the one at a place

@@ -8,10 +8,10 @@ use native.Mathlib.Omega.{arith}
 use borrow.Author.Count.{below-more}
 use lib.ListN.{length}
 use lib.Pow.{pow-pos, pow-mono}
-use Rattle.wire.specs.Runs.{part, splice, written}
+use Rattle.wire.specs.Slices.{part, splice, written}
 use Rattle.wire.proofs.Parts.{part-length}
 use Rattle.wire.proofs.Splices.{part-before, part-splice, written-fits, written-length}
-use Rattle.log.specs.Nodes.{nodeIn}
+use Rattle.nodes.specs.Nodes.{nodeIn}
 use Rattle.log.specs.Steps.{leftIn}
 
 pub record Saves (bs : List ℕ) (s m : ℕ) (saved : List ℕ) (span j : ℕ) : Type 0 where

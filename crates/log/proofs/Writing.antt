@@ -1,17 +1,16 @@
 -- The new nodes, written one behind the other: what holds after the leaf and j parents.
 use mathlib.Core.Path.{_≡_, refl, sym, ap, ap₂, _∙_}
-use mathlib.Core.List.{List, [], _∷_, _++_, append-nil}
+use mathlib.Core.List.{List, [], _∷_, _++_}
 use Prim.Native.Nat.{ℕ, suc, _+_, _-_, _*_, _≤_, _<_, zero-le}
 use native.Mathlib.Numerals.{add-one}
 use native.Mathlib.Omega.{arith}
 use lib.ListN.{length, drop}
 use lib.Seq.{drop-append-add, drop-drop}
 use Rattle.digest.specs.Digest.{digestOf, digest-length}
-use Rattle.wire.specs.Runs.{splice, written}
+use Rattle.wire.specs.Slices.{splice, written, joined}
 use Rattle.wire.proofs.Splices.{splice-front, splice-length, written-fits, written-next}
-use Rattle.log.specs.Nodes.{joined}
 use Rattle.log.specs.Steps.{up, ups}
-use Rattle.log.proofs.Joined.{joined-length, joined-append}
+use Rattle.wire.proofs.Joined.{joined-length, joined-append, joined-one}
 use Rattle.log.proofs.Climbs.{ups-length, ups-sized}
 
 -- what is written over the front hides what was written there before
@@ -26,10 +25,6 @@ splice-over x xs d h =
     ∙ ap (λ (l : List ℕ). xs ++ drop (length xs) l) (splice-front x d)
     ∙ ap (λ (l : List ℕ). xs ++ l) w
     ∙ sym (splice-front xs d)
-
-pub joined-one : (x : List ℕ) → joined (x ∷ []) ≡ x
-unfolding joined
-joined-one x = append-nil x
 
 -- x and j parents, where the left children are given by height, over the front of what was there
 pub record Writes (left : ℕ → List ℕ) (x first tail top : List ℕ) (m j : ℕ) : Type 0 where

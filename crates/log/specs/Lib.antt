@@ -1,5 +1,4 @@
 -- What append and root answer, and what the code's own steps are called.
-pub mod Nodes
 pub mod Outcomes
 pub mod Runs
 pub mod Steps

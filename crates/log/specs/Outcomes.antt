@@ -3,17 +3,13 @@ use mathlib.Core.List.{List, [], _∷_}
 use Prim.Native.Nat.{ℕ, suc, _*_, _^_}
 use lib.ListN.{length}
 use Rattle.order.specs.Order.{Refusal, _if_, _is_, _above_, _under_, verdict}
-use Rattle.shape.specs.Sizes.{sizeOf, countAnswer, hashCount}
+use Rattle.shape.specs.Sizes.{sizeOf, countAnswer, hashCount, leaves}
 use Rattle.shape.specs.Nodes.{newNodes}
 use Rattle.shape.specs.Positions.{peaks, fold}
-use Rattle.wire.specs.Runs.{splice, zeros}
-use Rattle.log.specs.Nodes.{nodeIn, joined}
+use Rattle.wire.specs.Slices.{splice, zeros, joined}
+use Rattle.nodes.specs.Nodes.{nodeIn}
 use Rattle.log.specs.declared.Appended.{Appended}
 use Rattle.log.specs.declared.Rooted.{Rooted}
-
--- the leaf count of a size
-abbrev pub leaves : ℕ → ℕ
-leaves size = countAnswer size .value
 
 -- ---- Append
 

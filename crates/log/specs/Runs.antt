@@ -6,7 +6,7 @@ use Prim.Native.Nat.{ℕ, _*_, _^_, _≤_}
 use lib.Dec.{eqb}
 use lib.ListN.{length, drop}
 use Rattle.shape.specs.Sizes.{sizeOf}
-use Rattle.log.specs.Nodes.{Begins}
+use Rattle.nodes.specs.Nodes.{Begins}
 use Rattle.log.specs.Outcomes.{appendOutcome}
 
 -- no record above 16,384 bytes

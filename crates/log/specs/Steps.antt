@@ -3,18 +3,18 @@ use mathlib.Core.Path.{_≡_}
 use mathlib.Core.List.{List, [], _∷_, _++_}
 use Prim.Native.Nat.{ℕ, zero, suc, _+_, _*_, _^_, _≤_, _<_}
 use Rattle.digest.specs.Digest.{digestOf}
-use Rattle.wire.specs.Runs.{part, zeros}
+use Rattle.wire.specs.Slices.{part, zeros}
 use Rattle.shape.specs.Nodes.{leftOf}
-use Rattle.log.specs.Nodes.{nodeIn}
+use Rattle.nodes.specs.Nodes.{nodeIn}
 use Rattle.log.specs.declared.Appended.{Appended}
 use Rattle.log.specs.declared.Rooted.{Rooted}
 
 -- a refused append, and a refused root
-abbrev pub notAppended : ℕ → ℕ → Appended
-notAppended number size = record { number = number; size = size; count = 0 }
+abbrev pub refusedAppend : ℕ → ℕ → Appended
+refusedAppend number size = record { number = number; size = size; count = 0 }
 
-abbrev pub notRooted : ℕ → Rooted
-notRooted number = record { number = number; digest = record { bytes = zeros 32 } }
+abbrev pub refusedRoot : ℕ → Rooted
+refusedRoot number = record { number = number; digest = record { bytes = zeros 32 } }
 
 -- digest j of joined ones
 abbrev pub leftIn : List ℕ → ℕ → List ℕ
@@ -33,10 +33,3 @@ up left (suc j) x = digestOf (left j ++ up left j x)
 unfoldable pub ups : (ℕ → List ℕ) → ℕ → List ℕ → List (List ℕ)
 ups left zero x = x ∷ []
 ups left (suc m) x = ups left m x ++ (up left (suc m) x ∷ [])
-
--- what a fold asks: some leaves, fewer than 2^k, and no sum that wraps
-pub record Foldable (k n s : ℕ) : Type 0 where
-  pub low : k ≤ 34
-  pub some : 0 < n
-  pub few : n < 2 ^ k
-  pub near : s + 2 * 2 ^ k ≤ 2 ^ 36

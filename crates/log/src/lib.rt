@@ -2,9 +2,8 @@
 ghost use mathlib.Core.Path.{_≡_};
 ghost use Rattle.digest.specs.Digest.{digestOf};
 ghost use Rattle.log.specs.Outcomes.{appended, appendOutcome, rooted, rootOutcome};
-ghost use Rattle.log.specs.Steps.{notAppended, notRooted};
+ghost use Rattle.log.specs.Steps.{refusedAppend, refusedRoot};
 
-pub mod fold;
 mod new;
 
 use digest::Digest;
@@ -26,8 +25,8 @@ pub struct Rooted {
 }
 
 // A refused append: the size it was given.
-fn not_appended(number: u32, size: u64) -> Appended
-    ensures { λ r. ⌜ r ≡ notAppended number size ⌝ }
+fn append_refused(number: u32, size: u64) -> Appended
+    ensures { λ r. ⌜ r ≡ refusedAppend number size ⌝ }
 {
     Appended {
         number,
@@ -42,19 +41,19 @@ pub fn append(size: u64, rec: &[u8], nodes: &mut [u8]) -> Appended
 {
     let c = shape::leaf_count(size);
     let Counted::Leaves(n) = c else {
-        return not_appended(1, size);
+        return append_refused(1, size);
     };
     if n == 4294967296 {
-        return not_appended(2, size);
+        return append_refused(2, size);
     }
     if 16384 < rec.len() {
-        return not_appended(3, size);
+        return append_refused(3, size);
     }
     let m = shape::merges(n);
     let count = 1 + m as u64;
     let grown = size + count;
     if (nodes.len() as u64) < 32 * grown {
-        return not_appended(4, size);
+        return append_refused(4, size);
     }
     let lefts = new::lefts(nodes, size, m);
     let at = (32 * size) as usize;
@@ -67,8 +66,8 @@ pub fn append(size: u64, rec: &[u8], nodes: &mut [u8]) -> Appended
 }
 
 // A refused root: a digest all zero.
-fn not_rooted(number: u32) -> Rooted
-    ensures { λ r. ⌜ r ≡ notRooted number ⌝ }
+fn root_refused(number: u32) -> Rooted
+    ensures { λ r. ⌜ r ≡ refusedRoot number ⌝ }
 {
     Rooted {
         number,
@@ -82,15 +81,15 @@ pub fn root(size: u64, nodes: &[u8]) -> Rooted
 {
     let c = shape::leaf_count(size);
     let Counted::Leaves(n) = c else {
-        return not_rooted(1);
+        return root_refused(1);
     };
     if n == 0 {
-        return not_rooted(10);
+        return root_refused(10);
     }
     if (nodes.len() as u64) < 32 * size {
-        return not_rooted(4);
+        return root_refused(4);
     }
-    let d = fold::fold_from(nodes, n, 0);
+    let d = nodes::fold_from(nodes, n, 0);
     Rooted {
         number: 0,
         digest: d,

@@ -3,8 +3,7 @@ ghost use mathlib.Core.Path.{_≡_};
 ghost use Prim.Native.Nat.{_+_, _*_, _^_, _≤_};
 ghost use lib.ListN.{length};
 ghost use Rattle.digest.specs.Digest.{digestOf};
-ghost use Rattle.wire.specs.Runs.{splice};
-ghost use Rattle.log.specs.Nodes.{joined};
+ghost use Rattle.wire.specs.Slices.{splice, joined};
 ghost use Rattle.log.specs.Steps.{Lefts, leftIn, ups};
 use digest::Digest;
 

@@ -7,7 +7,7 @@ use Prim.Native.Nat.{ℕ}
 use native.Mathlib.Omega.{arith}
 use borrow.Author.Tests.{ltb-true, eqb-true}
 use lib.Dec.{T, ltb, eqb}
-use Rattle.order.specs.Order.{Test, applies, Refusal, _if_, verdict, first}
+use Rattle.order.specs.Order.{Test, applies, Refusal, _if_, verdict, firstNumber}
 use Rattle.order.proofs.Tests.{Fails, false-of, fails-of, by-test}
 
 -- no refusal of an order applies
@@ -74,22 +74,22 @@ pub passes : {X : Type 0} (refused : ℕ → X) (order : List Refusal) (done : X
 passes refused order done e h = e ∙ sym (pass refused done order h)
 
 -- the number alone
-pub first-is : (n : ℕ) (order : List Refusal) → Refuses n order → n ≡ first order
-unfolding first
+pub first-is : (n : ℕ) (order : List Refusal) → Refuses n order → n ≡ firstNumber order
+unfolding firstNumber
 first-is n order h = sym (reach (λ m. m) 0 n order h)
 
-pub first-none : (order : List Refusal) → Passes order → 0 ≡ first order
-unfolding first
+pub first-none : (order : List Refusal) → Passes order → 0 ≡ firstNumber order
+unfolding firstNumber
 first-none order h = sym (pass (λ m. m) 0 order h)
 
 -- a refusal that does not apply leaves it to the later ones
-pub first-next : (m : ℕ) (t : Test) (later : List Refusal) → Fails t → first (m if t ∷ later) ≡ first later
-unfolding first
+pub first-next : (m : ℕ) (t : Test) (later : List Refusal) → Fails t → firstNumber (m if t ∷ later) ≡ firstNumber later
+unfolding firstNumber
 first-next m t later h = next (λ k. k) 0 m t later (false-of t h)
 
 -- two orders that begin with one refusal
-pub first-both : (m : ℕ) (t : Test) (xs ys : List Refusal) → (Fails t → first xs ≡ first ys) → first (m if t ∷ xs) ≡ first (m if t ∷ ys)
-unfolding first
+pub first-both : (m : ℕ) (t : Test) (xs ys : List Refusal) → (Fails t → firstNumber xs ≡ firstNumber ys) → firstNumber (m if t ∷ xs) ≡ firstNumber (m if t ∷ ys)
+unfolding firstNumber
 first-both m t xs ys h =
     by-test t (λ e. stop (λ k. k) 0 m t xs e ∙ sym (stop (λ k. k) 0 m t ys e))
     (λ e. next (λ k. k) 0 m t xs e ∙ h (fails-of t e) ∙ sym (next (λ k. k) 0 m t ys e))
@@ -97,8 +97,8 @@ first-both m t xs ys h =
 -- ---- what an answer tells
 
 -- the number 0 is that of no refusal
-pub clear : (order : List Refusal) → T (numbered order) → first order ≡ 0 → Passes order
-unfolding first
+pub clear : (order : List Refusal) → T (numbered order) → firstNumber order ≡ 0 → Passes order
+unfolding firstNumber
 clear [] h z = tt
 clear (m if t ∷ later) h z =
     let a = both (ltb 0 m) (numbered later) h in
@@ -110,8 +110,8 @@ clear (m if t ∷ later) h z =
 
 module _ {X : Type 0} (refused : ℕ → X) (done : X) where
   -- the answer by its number
-  pub refused-by : (order : List Refusal) → first order ≢ 0 → verdict refused order done ≡ refused (first order)
-  unfolding first verdict
+  pub refused-by : (order : List Refusal) → firstNumber order ≢ 0 → verdict refused order done ≡ refused (firstNumber order)
+  unfolding firstNumber verdict
   refused-by [] h = absurd (h refl)
   refused-by (m if t ∷ later) h =
       by-test t (λ e. stop refused done m t later e ∙ ap refused (sym (stop (λ k. k) 0 m t later e)))
@@ -119,7 +119,7 @@ module _ {X : Type 0} (refused : ℕ → X) (done : X) where
       let n = next (λ k. k) 0 m t later e in
       next refused done m t later e ∙ refused-by later (λ z. h (n ∙ z)) ∙ ap refused (sym n))
 
-  pub done-by : (order : List Refusal) → T (numbered order) → first order ≡ 0 → verdict refused order done ≡ done
+  pub done-by : (order : List Refusal) → T (numbered order) → firstNumber order ≡ 0 → verdict refused order done ≡ done
   done-by order h z = pass refused done order (clear order h z)
 
 -- what is read off an answer
@@ -134,8 +134,8 @@ verdict-map {Y = Y} f refused (m if t ∷ later) done =
 
 module _ {X : Type 0} (number : X → ℕ) (refused : ℕ → X) (order : List Refusal) (done : X)
     (is : (n : ℕ) → number (refused n) ≡ n) (zero : number done ≡ 0) {r : X} (e : r ≡ verdict refused order done) where
-  pub number-is : number r ≡ first order
-  unfolding first
+  pub number-is : number r ≡ firstNumber order
+  unfolding firstNumber
   number-is =
       ap number e ∙ verdict-map number refused order done
       ∙ ap₂ (λ (f : ℕ → ℕ) (z : ℕ). verdict f order z) (λ i n. is n i) zero
@@ -143,7 +143,7 @@ module _ {X : Type 0} (number : X → ℕ) (refused : ℕ → X) (order : List R
   -- an answer with the number 0: no refusal applies, and it is the done one
   pub accepted : T (numbered order) → number r ≡ 0 → Passes order × (r ≡ done)
   accepted h z =
-      let f : first order ≡ 0 = sym number-is ∙ z in
+      let f : firstNumber order ≡ 0 = sym number-is ∙ z in
       (clear order h f, e ∙ done-by refused done order h f)
 
   -- any other is the refusal with its number
@@ -172,7 +172,7 @@ verdict-append refused (m if t ∷ later) ys done =
 
 module _ {X : Type 0} (refused : ℕ → X) (xs ys : List Refusal) (done : X) {r : X} where
   -- the first part decides, by its number
-  pub early : r ≡ refused (first xs) → first xs ≢ 0 → r ≡ verdict refused (xs ++ ys) done
+  pub early : r ≡ refused (firstNumber xs) → firstNumber xs ≢ 0 → r ≡ verdict refused (xs ++ ys) done
   early e h = e ∙ sym (verdict-append refused xs ys done ∙ refused-by refused (verdict refused ys done) xs h)
 
   -- the first part passes, and the second decides

@@ -30,6 +30,6 @@ verdict refused (number if test ∷ later) done =
     elim (applies test) [ true ↦ refused number | false ↦ verdict refused later done ]
 
 -- the number that a call answers: 0 where it is done
-unfoldable pub first : List Refusal → ℕ
+unfoldable pub firstNumber : List Refusal → ℕ
 unfolding verdict
-first order = verdict (λ number. number) order 0
+firstNumber order = verdict (λ number. number) order 0

@@ -7,7 +7,7 @@ ghost use lib.ListN.{length, take};
 ghost use Rattle.io.specs.Counts.{Counts};
 ghost use Rattle.io.specs.Digits.{digits, Fewest};
 ghost use Rattle.digest.specs.Digest.{digestOf};
-ghost use Rattle.checker.specs.Outcome.{judged};
+ghost use Rattle.letter_checker.specs.Outcome.{judged};
 use libc::STDIN_FILENO;
 use libc::STDOUT_FILENO;
 
@@ -18,7 +18,7 @@ fn verdict(input: &[u8], out: &mut [u8; 20]) -> usize
     ensures { λ r. ⌜ ((whole : List ℕ) → now (input .entry) ≡ take 17469 whole
         → take r (now (out .exit)) ≡ digits 10 r (judged digestOf whole)) ⌝ }
 {
-    io::decimal(checker::judge(input) as u64, out)
+    io::decimal(letter_checker::judge(input) as u64, out)
 }
 
 // The one buffer: the longest letter, with size and root before it, and a byte more.

@@ -5,7 +5,7 @@ use denote.Ref.{RefT, ptr, now}
 use lib.ListN.{getD, take}
 use Rattle.wire.specs.Lent.{Part}
 use Rattle.wire.specs.Numbers.{be}
-use Rattle.wire.specs.Runs.{written}
+use Rattle.wire.specs.Slices.{written}
 
 -- the length of record k of a log: five lengths, over and over
 abbrev pub lengthOf : ℕ → ℕ

@@ -5,9 +5,10 @@ use Prim.Native.Nat.{ℕ}
 use native.Mathlib.Omega.{arith}
 use lib.ListN.{length, length-append, take, drop}
 use lib.Seq.{take-at, drop-at}
-use Rattle.shape.specs.Tree.{Tree, tip, fork, Each, Tips32, Alike, tips, forks, root, inputs}
+use Rattle.shape.specs.Tree.{Tree, tip, fork, Tips32, Alike, tips, forks, root, inputs}
+use Rattle.wire.specs.Slices.{Each}
 use Rattle.shape.specs.Difference.{difference, Shown}
-use Rattle.shape.proofs.Each.{each-append}
+use Rattle.wire.proofs.Each.{each-append}
 use Rattle.shape.proofs.Difference.{shown-map, shown-cons, shown-append}
 
 -- two joined lists that are equal, the first parts of one length

@@ -6,7 +6,7 @@ use Prim.Native.Nat.{ℕ}
 use native.Mathlib.Nat.{suc-inj}
 use native.Mathlib.Omega.{arith}
 use lib.ListN.{length}
-use Rattle.shape.specs.Tree.{Each}
+use Rattle.wire.specs.Slices.{Each}
 use Rattle.shape.specs.Difference.{decided, whether, Diff, agree, unequal, difference, Shown}
 
 whether-yes : {P A : Type 0} (d : Dec P) (a b : A) → P → whether d a b ≡ a

@@ -5,11 +5,12 @@ use Prim.Native.Nat.{ℕ, suc}
 use native.Mathlib.Omega.{arith}
 use lib.ListN.{length, length-append, length-drop, getD, take, drop}
 use lib.Seq.{take-at, getD-at, take-suc, take-all, drop-cons, length-take-le}
-use Rattle.shape.specs.Tree.{Tree, tip, Each, Tips32, Alike, tips, forks, Turn, left, right, past, root, inputs, Pruned, cut, kept, OnePlace}
+use Rattle.shape.specs.Tree.{Tree, tip, Tips32, Alike, tips, forks, Turn, left, right, past, root, inputs, Pruned, cut, kept, OnePlace}
+use Rattle.wire.specs.Slices.{Each}
 use Rattle.shape.specs.Letter.{Leads, here, to-left, to-right, to-past, fill, items}
 use Rattle.shape.specs.Difference.{unequal, difference, Shown}
 use Rattle.shape.proofs.Difference.{difference-each, shown-map}
-use Rattle.shape.proofs.Each.{each-append, each-take, each-drop, each-at}
+use Rattle.wire.proofs.Each.{each-append, each-take, each-drop, each-at}
 use Rattle.shape.proofs.Bind.{root-32, inputs-64, bind}
 use Rattle.shape.proofs.Prune.{pruned-root, first-place}
 

@@ -4,11 +4,11 @@ pub mod Heights
 pub mod Trailing
 pub mod Sizes
 pub mod Counts
+pub mod Counting
 pub mod Narrow
 pub mod Only
 pub mod Marks
 pub mod Difference
-pub mod Each
 pub mod Bind
 pub mod Prune
 pub mod Letters

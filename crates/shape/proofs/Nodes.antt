@@ -10,12 +10,13 @@ use lib.Seq.{length-take-le, take-all}
 use lib.Pow.{pow-pos}
 use borrow.Author.Tests.{le-leb, lt-leb}
 use Rattle.shape.specs.Sizes.{sizeOf, heightOf}
-use Rattle.shape.specs.Tree.{Each, root}
+use Rattle.wire.specs.Slices.{Each}
+use Rattle.shape.specs.Tree.{root}
 use Rattle.shape.specs.Folded.{treeIn}
 use Rattle.shape.specs.Nodes.{perfectRoot, perfect, nodesIn, nodes}
 use Rattle.shape.proofs.Heights.{height-above, any-height}
 use Rattle.shape.proofs.Sizes.{size-zero, size-peak}
-use Rattle.shape.proofs.Each.{each-append, each-take, each-drop}
+use Rattle.wire.proofs.Each.{each-append, each-take, each-drop}
 use Rattle.shape.proofs.Trees.{tree-high}
 
 module _ (digest : List ℕ → List ℕ) where

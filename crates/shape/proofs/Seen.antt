@@ -7,7 +7,7 @@ use native.Mathlib.Decide.{decLt}
 use native.Mathlib.Omega.{arith}
 use lib.Pow.{pow-pos}
 use borrow.Author.Tests.{le-leb, lt-leb, lt-ltb, le-ltb}
-use Rattle.wire.specs.Runs.{differ}
+use Rattle.wire.specs.Slices.{differ}
 use Rattle.wire.proofs.Differences.{differ-same}
 use Rattle.shape.specs.Positions.{top, behind, peaksIn, fold}
 use Rattle.shape.specs.Seen.{either, sides, seenIn, seen, brokenPeak, brokenIn, broken}

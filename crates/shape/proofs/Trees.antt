@@ -8,10 +8,11 @@ use native.Mathlib.Omega.{arith}
 use lib.ListN.{length, length-drop, take, drop}
 use lib.Seq.{length-take-le}
 use borrow.Author.Tests.{le-leb, lt-leb}
-use Rattle.shape.specs.Tree.{fork, Each, Tips32}
+use Rattle.shape.specs.Tree.{fork, Tips32}
+use Rattle.wire.specs.Slices.{Each}
 use Rattle.shape.specs.Folded.{treeIn, tree}
 use Rattle.shape.proofs.Heights.{any-height, height-holds}
-use Rattle.shape.proofs.Each.{each-take, each-drop}
+use Rattle.wire.proofs.Each.{each-take, each-drop}
 
 pub tree-low : (h : ℕ) (ds : List (List ℕ)) → length ds ≤ 2 ^ h → treeIn (suc h) ds ≡ treeIn h ds
 unfolding treeIn

@@ -3,7 +3,7 @@ use mathlib.Core.Bool.{true, false}
 use mathlib.Core.List.{List, [], _∷_, _++_}
 use Prim.Native.Nat.{ℕ, zero, suc, _-_, _^_}
 use lib.Dec.{leb, ltb}
-use Rattle.wire.specs.Runs.{differ}
+use Rattle.wire.specs.Slices.{differ}
 use Rattle.shape.specs.Sizes.{heightOf}
 use Rattle.shape.specs.Positions.{top, behind, peaksIn, fold}
 

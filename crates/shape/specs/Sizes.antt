@@ -26,6 +26,10 @@ countUpTo (suc k) s = elim (eqb (sizeOf (suc k)) s) [ true ↦ done (suc k) | fa
 unfoldable pub countAnswer : ℕ → Answer
 countAnswer s = countUpTo (2 ^ 32) s
 
+-- the leaf count of a size
+abbrev pub leaves : ℕ → ℕ
+leaves size = countAnswer size .value
+
 -- the ones at the low end of n's k lowest digits, up to the first zero
 unfoldable pub trailingIn : ℕ → ℕ → ℕ
 trailingIn zero n = zero

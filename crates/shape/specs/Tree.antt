@@ -9,11 +9,6 @@ pub data Tree : Type 0 where
   tip : List ℕ → Tree
   fork : Tree → Tree → Tree
 
--- each string has k bytes
-abbrev pub Each : ℕ → List (List ℕ) → Type 0
-Each k [] = Unit {0}
-Each k (x ∷ xs) = (length x ≡ k) × Each k xs
-
 -- each digest that a tree takes as it stands has 32 bytes
 abbrev pub Tips32 : Tree → Type 0
 Tips32 (tip d) = length d ≡ 32

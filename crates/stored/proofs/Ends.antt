@@ -6,7 +6,7 @@ use native.Mathlib.Omega.{arith}
 use native.Mathlib.Decide.{ℕ-discrete}
 use borrow.Author.Needs.{needs}
 use lib.ListN.{length}
-use Rattle.wire.specs.Runs.{zeros}
+use Rattle.wire.specs.Slices.{zeros}
 use Rattle.order.proofs.Laws.{refuses, passes, accepted, refusal}
 use Rattle.stored.specs.Nodes.{flagIn, digestIn, statedIn}
 use Rattle.stored.specs.Read.{inner, leaf, ReadOutcome, readRefused, innerRead, leafRead, readOrder, readOutcome}

@@ -5,7 +5,7 @@ use Prim.Native.Nat.{ℕ, _+_, _^_, _<_}
 use native.Mathlib.Omega.{arith}
 use lib.ListN.{length, length-append}
 use Rattle.wire.specs.Numbers.{be, Bytes}
-use Rattle.wire.specs.Runs.{part}
+use Rattle.wire.specs.Slices.{part}
 use Rattle.wire.proofs.Numbers.{be-length}
 use Rattle.wire.proofs.Parts.{part-length, part-whole, part-past, part-field, part-add}
 use Rattle.wire.proofs.Places.{number-field, be-part}

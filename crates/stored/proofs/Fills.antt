@@ -5,7 +5,7 @@ use Prim.Native.Nat.{ℕ, _+_, _≤_}
 use native.Mathlib.Omega.{arith}
 use lib.ListN.{length}
 use Rattle.wire.specs.Numbers.{be}
-use Rattle.wire.specs.Runs.{splice, written}
+use Rattle.wire.specs.Slices.{splice, written}
 use Rattle.wire.specs.Writers.{wrote, writeDone}
 use Rattle.wire.proofs.Numbers.{be-length}
 use Rattle.wire.proofs.Writers.{write-done}

@@ -5,7 +5,7 @@ use Prim.Native.Nat.{ℕ, _+_}
 use native.Mathlib.Omega.{arith}
 use borrow.Author.Tests.{eq-eqb, ne-eqb}
 use lib.ListN.{length}
-use Rattle.wire.specs.Runs.{zeros}
+use Rattle.wire.specs.Slices.{zeros}
 use Rattle.order.specs.Order.{Refusal, _if_, _under_, _above_, _is-not_, verdict}
 use Rattle.stored.specs.Nodes.{flagIn, digestIn, statedIn}
 use Rattle.stored.specs.Read.{readRefused, innerRead, leafRead, forFlag, readOrder, readDone, readOutcome}

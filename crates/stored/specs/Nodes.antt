@@ -3,7 +3,7 @@ use mathlib.Core.List.{List, _∷_, _++_}
 use Prim.Native.Nat.{ℕ}
 use lib.ListN.{length, getD}
 use Rattle.wire.specs.Numbers.{be, number}
-use Rattle.wire.specs.Runs.{part}
+use Rattle.wire.specs.Slices.{part}
 
 -- ---- as it is made
 

@@ -5,7 +5,7 @@ use Prim.Native.Nat.{ℕ, _+_}
 use denote.Ref.{RefT, now}
 use lib.Dec.{eqb}
 use lib.ListN.{length}
-use Rattle.wire.specs.Runs.{zeros}
+use Rattle.wire.specs.Slices.{zeros}
 use Rattle.wire.specs.Lent.{Part, partOf}
 use Rattle.order.specs.Order.{Refusal, _if_, _under_, _above_, _is-not_, verdict}
 use Rattle.stored.specs.declared.Node.{Node}

@@ -3,7 +3,7 @@
 //   leaf: byte 01, digest, record length (4 bytes, big-endian), record; 37 + length bytes
 ghost use mathlib.Core.Path.{_≡_};
 ghost use Rattle.digest.specs.Digest.{digestOf};
-ghost use Rattle.wire.specs.Runs.{zeros};
+ghost use Rattle.wire.specs.Slices.{zeros};
 ghost use Rattle.wire.specs.Writers.{wrote};
 ghost use Rattle.wire.specs.Lent.{lent};
 ghost use Rattle.stored.specs.Write.{leafOutcome, innerOutcome};

@@ -5,7 +5,7 @@ use mathlib.Core.List.{List, List-discrete}
 use Prim.Native.Nat.{ℕ}
 use native.Mathlib.Decide.{ℕ-discrete}
 use native.Mathlib.Omega.{arith}
-use Rattle.wire.specs.Runs.{differ}
+use Rattle.wire.specs.Slices.{differ}
 
 module _ (a b : List ℕ) where
   data Compared : Type 0 where

@@ -5,7 +5,7 @@ use Prim.Native.Nat.{ℕ, _+_, _-_, _≤_}
 use native.Mathlib.Omega.{arith}
 use denote.Ref.{RefT}
 use lib.ListN.{length, take, drop}
-use Rattle.wire.specs.Runs.{part}
+use Rattle.wire.specs.Slices.{part}
 use Rattle.wire.specs.Lent.{Part, lent, partOf}
 use Rattle.wire.proofs.Parts.{part-within}
 

@@ -4,5 +4,8 @@ pub mod Parts
 pub mod Splices
 pub mod Differences
 pub mod Places
+pub mod Each
+pub mod Joined
+pub mod Rows
 pub mod Writers
 pub mod Lent

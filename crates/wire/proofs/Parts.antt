@@ -10,7 +10,7 @@ use lib.ListN.{length-append, length-drop, length-replicate, replicate-append-re
 use lib.Seq.{length-take-le, take-all, take-length, take-at, take-append-le, take-append-add, drop-append-le, drop-append-add, drop-drop}
 use lib.Seq.{getD-take, getD-drop, getD-append-add, ext-getD}
 use Rattle.wire.specs.Numbers.{Bytes}
-use Rattle.wire.specs.Runs.{zeros, part}
+use Rattle.wire.specs.Slices.{zeros, part}
 
 pub part-length : (at k : ℕ) (bs : List ℕ) → length (part at k bs) ≡ k
 unfolding part

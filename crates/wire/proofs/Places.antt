@@ -4,7 +4,7 @@ use mathlib.Core.List.{List, _++_}
 use Prim.Native.Nat.{ℕ, _+_, _^_, _≤_, _<_}
 use lib.ListN.{length}
 use Rattle.wire.specs.Numbers.{be, number, Bytes}
-use Rattle.wire.specs.Runs.{part, written}
+use Rattle.wire.specs.Slices.{part, written}
 use Rattle.wire.proofs.Numbers.{be-length, number-be, be-number}
 use Rattle.wire.proofs.Parts.{part-length, part-bytes, part-field}
 use Rattle.wire.proofs.Splices.{part-splice, splice-part, written-fits}

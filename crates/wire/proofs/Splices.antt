@@ -9,7 +9,7 @@ use native.Mathlib.Numerals.{add-one}
 use borrow.Author.Tests.{le-leb, lt-leb}
 use lib.ListN.{length, take, drop, set, length-append, length-drop, take-append-drop, drop-of-length-le}
 use lib.Seq.{length-take-le, take-append-le, take-take, take-add, take-at, drop-at, drop-append-le, drop-drop, set-split, append-snoc}
-use Rattle.wire.specs.Runs.{part, splice, written}
+use Rattle.wire.specs.Slices.{part, splice, written}
 use Rattle.wire.proofs.Parts.{part-length, part-within, part-front, part-past, part-field, part-take, part-drop}
 
 -- ---- a splice that fits

@@ -3,7 +3,7 @@ use mathlib.Core.Path.{_≡_, sym, _∙_}
 use mathlib.Core.List.{List}
 use Prim.Native.Nat.{ℕ}
 use lib.ListN.{length}
-use Rattle.wire.specs.Runs.{splice}
+use Rattle.wire.specs.Slices.{splice}
 use Rattle.wire.specs.declared.Written.{Written}
 use Rattle.wire.specs.Writers.{WriteOutcome, wrote, writeDone}
 

@@ -2,7 +2,7 @@
 use mathlib.Core.List.{List}
 use Prim.Native.Nat.{ℕ, _+_}
 use denote.Ref.{RefT, ptr, now}
-use Rattle.wire.specs.Runs.{part}
+use Rattle.wire.specs.Slices.{part}
 
 -- its bytes, and the place where they lie (a block, and an offset in it)
 pub record Part : Type 0 where

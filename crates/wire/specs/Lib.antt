@@ -1,5 +1,5 @@
 -- The definitions that the contracts cite.
 pub mod Numbers
-pub mod Runs
+pub mod Slices
 pub mod Writers
 pub mod Lent

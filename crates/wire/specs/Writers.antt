@@ -2,7 +2,7 @@
 use mathlib.Core.List.{List}
 use Prim.Native.Nat.{ℕ}
 use lib.ListN.{length}
-use Rattle.wire.specs.Runs.{splice}
+use Rattle.wire.specs.Slices.{splice}
 use Rattle.wire.specs.declared.Written.{Written}
 
 -- the number, the length, and the bytes of the output buffer as the writer returns

@@ -5,7 +5,7 @@ ghost use mathlib.Core.List.{[], _∷_};
 ghost use Prim.Native.Nat.{_≤_};
 ghost use lib.ListN.{length, drop, getD};
 ghost use Rattle.wire.specs.Numbers.{be, number};
-ghost use Rattle.wire.specs.Runs.{zeros, part, written, differ};
+ghost use Rattle.wire.specs.Slices.{zeros, part, written, differ};
 
 // What a writer of one thing answers: 01's number, and the length of what it wrote, 0 for a refusal.
 #[repr(C)]

@@ -1,7 +1,7 @@
 -- `keeper::keeper_letter_write` meets its contract: what the writer answers, and the length where it is done.
 use native.Mathlib.Omega.{arith}
 use Rattle.digest.specs.Digest.{digestOf}
-use Rattle.writer.specs.Outcome.{ourLetter, writeOrder, writeOutcome}
+use Rattle.letter_writer.specs.Outcome.{ourLetter, writeOrder, writeOutcome}
 use Rattle.keeper.specs.Letters.{letterWriteCall}
 use Rattle.keeper.proofs.Laws.{write-refused, write-done}
 use borrow.Author.Needs.{needs}

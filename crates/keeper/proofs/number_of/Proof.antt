@@ -1,14 +1,13 @@
 -- What is found has the number of its case.
 use mathlib.Core.Path.{_≡_, sym, ap}
-use Rattle.finder.specs.declared.Finding.{Finding}
-use Rattle.finder.specs.Outcome.{answerOf}
-use Rattle.keeper.specs.Finder.{answerNumber}
+use Rattle.difference.specs.declared.Finding.{Finding}
+use Rattle.keeper.specs.Finder.{findingNumber}
 use borrow.Author.Needs.{needs}
 use Rattle.keeper.proofs.number_of.Statement.{statement}
 use Rattle.keeper.proofs.number_of.Tie as tie
 
-of-case : {finding known : Finding} → finding ≡ known → answerNumber (answerOf known) ≡ answerNumber (answerOf finding)
-of-case e = ap (λ (f : Finding). answerNumber (answerOf f)) (sym e)
+of-case : {finding known : Finding} → finding ≡ known → findingNumber known ≡ findingNumber finding
+of-case e = ap (λ (f : Finding). findingNumber f) (sym e)
 
 pub number-of-spec : {M : Type 1} → statement M
 number-of-spec =

@@ -1,7 +1,8 @@
 -- `letter::take_apart` meets its contract: each refusal is the first of its order that applies, and where none does the fields are those read.
 use mathlib.Core.Path.{_≡_, ap, _∙_}
+use Prim.Native.Nat.{_+_}
 use Rattle.order.proofs.Laws.{refuses, passes}
-use Rattle.letter.specs.Bytes.{sizeIn, indexIn, statedIn}
+use Rattle.letter.specs.Bytes.{head, sizeIn, indexIn, statedIn}
 use Rattle.letter.specs.Items.{itemCount}
 use Rattle.letter.specs.Order.{FieldsOutcome, itemsFor, fieldsOrder, fieldsOutcome}
 use borrow.Author.Needs.{needs}
@@ -18,27 +19,27 @@ counted c =
 
 returns : tie.Need-returns
 unfolding fieldsOutcome fieldsOrder
-returns c = refuses 7 _ _ _ (c .no-fields .ensures) (search needs)
+returns c = refuses 7 _ _ _ (c .fields-refused .ensures) (search needs)
 
 returns-2 : tie.Need-returns-2
 unfolding fieldsOutcome fieldsOrder sizeIn
-returns-2 c = refuses 8 _ _ _ (c .no-fields2 .ensures) (search needs)
+returns-2 c = refuses 8 _ _ _ (c .fields-refused2 .ensures) (search needs)
 
 returns-3 : tie.Need-returns-3
 unfolding fieldsOutcome fieldsOrder sizeIn indexIn
-returns-3 c = refuses 5 _ _ _ (c .no-fields3 .ensures) (search needs)
+returns-3 c = refuses 5 _ _ _ (c .fields-refused3 .ensures) (search needs)
 
 returns-4 : tie.Need-returns-4
 unfolding fieldsOutcome fieldsOrder sizeIn indexIn
-returns-4 c = let k = counted (c .before .before) in refuses 15 _ _ _ (c .no-fields4 .ensures) (search needs)
+returns-4 c = let k = counted (c .before .before) in refuses 15 _ _ _ (c .fields-refused4 .ensures) (search needs)
 
 returns-5 : tie.Need-returns-5
 unfolding fieldsOutcome fieldsOrder sizeIn indexIn statedIn
-returns-5 c = let k = counted (c .before .before .before .before) in refuses 3 _ _ _ (c .no-fields5 .ensures) (search needs)
+returns-5 c = let k = counted (c .before .before .before .before) in refuses 3 _ _ _ (c .fields-refused5 .ensures) (search needs)
 
 returns-6 : tie.Need-returns-6
 unfolding fieldsOutcome fieldsOrder sizeIn indexIn statedIn
-returns-6 c = let k = counted (c .before .before .before .before .before) in refuses 7 _ _ _ (c .no-fields6 .ensures) (search needs)
+returns-6 c = let k = counted (c .before .before .before .before .before) in refuses 7 _ _ _ (c .fields-refused6 .ensures) (search needs)
 
 returns-7 : tie.Need-returns-7
 unfolding fieldsOutcome fieldsOrder sizeIn indexIn statedIn
@@ -47,8 +48,8 @@ returns-7 c =
     let f : FieldsOutcome = record {
       number = 0;
       index = c .before .before .before .before .before .before .read82 .result;
-      stated = c .before .before .read4 .result;
-      items = c .before .before .before .before .item-count .result;
+      start = head;
+      end = head + c .before .before .read4 .result;
     } in
     passes _ _ _ {r = f} (cc) (search needs)
 

@@ -5,10 +5,10 @@ use native.Mathlib.Omega.{arith}
 use lib.ListN.{length, drop, length-drop}
 use lib.Seq.{length-take-le}
 use Rattle.order.proofs.Laws.{refuses, passes}
-use Rattle.shape.specs.Sizes.{sizeOf}
-use Rattle.log.specs.Outcomes.{leaves, appended, appendOrder, appendOutcome}
+use Rattle.shape.specs.Sizes.{sizeOf, leaves}
+use Rattle.log.specs.Outcomes.{appended, appendOrder, appendOutcome}
 use Rattle.log.specs.declared.Appended.{Appended}
-use Rattle.log.proofs.Counting.{Counts, counts-leaves, counts-none, grown-size, merges-few, lefts-room}
+use Rattle.shape.proofs.Counting.{Counts, counts-leaves, counts-none, grown-size, merges-few, lefts-room}
 use Rattle.log.proofs.Done.{new-bytes, new-fits, append-done}
 use borrow.Author.Needs.{needs}
 use Rattle.log.proofs.append.Statement.{statement}
@@ -23,21 +23,21 @@ unfolding appendOutcome appendOrder
 returns c =
     let a = c .before .before .before .before .before .before .args in
     let k = counts-none (a .size) (c .before .before .before .leaf-count .ensures) (c .before .enum-told .given .1) in
-    refuses 1 _ _ _ (ap (λ (r : Appended). appended r (a .nodes .now)) (c .not-appended .ensures)) (search needs)
+    refuses 1 _ _ _ (ap (λ (r : Appended). appended r (a .nodes .now)) (c .append-refused .ensures)) (search needs)
 
 returns-2 : tie.Need-returns-2
 unfolding appendOutcome appendOrder
 returns-2 c =
     let a = c .before .before .before .before .before .before .before .before .args in
     let k = known (c .before .before) in
-    refuses 2 _ _ _ (ap (λ (r : Appended). appended r (a .nodes .now)) (c .not-appended2 .ensures)) (search needs)
+    refuses 2 _ _ _ (ap (λ (r : Appended). appended r (a .nodes .now)) (c .append-refused2 .ensures)) (search needs)
 
 returns-3 : tie.Need-returns-3
 unfolding appendOutcome appendOrder
 returns-3 c =
     let a = c .before .before .before .before .before .before .before .before .before .args in
     let k = known (c .before .before .before) in
-    refuses 3 _ _ _ (ap (λ (r : Appended). appended r (a .nodes .now)) (c .not-appended3 .ensures)) (search needs)
+    refuses 3 _ _ _ (ap (λ (r : Appended). appended r (a .nodes .now)) (c .append-refused3 .ensures)) (search needs)
 
 returns-4 : tie.Need-returns-4
 unfolding appendOutcome appendOrder
@@ -45,7 +45,7 @@ returns-4 c =
     let a = c .before .before .before .before .before .before .before .before .before .before .before .args in
     let k = known (c .before .before .before .before .before) in
     let g : sizeOf (suc (leaves (a .size))) ≡ a .size + (1 + c .before .before .merges .result) = grown-size k (c .before .before .merges .ensures) in
-    refuses 4 _ _ _ (ap (λ (r : Appended). appended r (a .nodes .now)) (c .not-appended4 .ensures)) (search needs)
+    refuses 4 _ _ _ (ap (λ (r : Appended). appended r (a .nodes .now)) (c .append-refused4 .ensures)) (search needs)
 
 -- and the room that the merges leave
 rooms : (c : tie.After-merges) →

@@ -4,7 +4,7 @@ use native.Mathlib.Omega.{arith}
 use Rattle.order.proofs.Laws.{refuses, passes}
 use Rattle.shape.proofs.Sizes.{size-le}
 use Rattle.log.specs.Outcomes.{rooted, rootOrder, rootOutcome}
-use Rattle.log.proofs.Counting.{Counts, counts-leaves, counts-none}
+use Rattle.shape.proofs.Counting.{Counts, counts-leaves, counts-none}
 use Rattle.log.proofs.Done.{root-done}
 use borrow.Author.Needs.{needs}
 use Rattle.log.proofs.root.Statement.{statement}
@@ -19,13 +19,13 @@ unfolding rootOutcome rootOrder
 returns c =
     let k = counts-none (c .before .before .before .before .before .args .size) (c .before .before .before .leaf-count .ensures)
     (c .before .enum-told .given .1) in
-    refuses 1 _ _ _ (ap rooted (c .not-rooted .ensures)) (search needs)
+    refuses 1 _ _ _ (ap rooted (c .root-refused .ensures)) (search needs)
 
 returns-2 : tie.Need-returns-2
 unfolding rootOutcome rootOrder
 returns-2 c =
     let k = known (c .before .before) in
-    refuses 10 _ _ _ (ap rooted (c .not-rooted2 .ensures)) (search needs)
+    refuses 10 _ _ _ (ap rooted (c .root-refused2 .ensures)) (search needs)
 
 mul-if2 : tie.Need-mul-if2
 mul-if2 c = let k = known (c .before) in omega (arith, size-le (c .before .before .c .given .0 .0))
@@ -34,7 +34,7 @@ returns-3 : tie.Need-returns-3
 unfolding rootOutcome rootOrder
 returns-3 c =
     let k = known (c .before .before .before) in
-    refuses 4 _ _ _ (ap rooted (c .not-rooted3 .ensures)) (search needs)
+    refuses 4 _ _ _ (ap rooted (c .root-refused3 .ensures)) (search needs)
 
 returns-4 : tie.Need-returns-4
 unfolding rootOutcome rootOrder

@@ -5,8 +5,8 @@ use Prim.Native.Nat.{ℕ}
 use lib.ListN.{take}
 use borrow.Author.Needs.{needs}
 use Rattle.digest.specs.Digest.{digestOf}
-use Rattle.checker.specs.Outcome.{judged}
-use Rattle.checker.proofs.Panel.{front-judged}
+use Rattle.letter_checker.specs.Outcome.{judged}
+use Rattle.letter_checker.proofs.Panel.{front-judged}
 use Rattle.panel.proofs.verdict.Statement.{statement}
 use Rattle.panel.proofs.verdict.Tie as tie
 

@@ -5,7 +5,7 @@ use Prim.Native.Nat.{ℕ, _+_}
 use native.Mathlib.Omega.{arith}
 use denote.Ref.{RefT}
 use lib.ListN.{length}
-use Rattle.wire.specs.Runs.{part}
+use Rattle.wire.specs.Slices.{part}
 use Rattle.wire.proofs.Lent.{slice-part, lent-part}
 use Rattle.stored.specs.declared.Node.{Node}
 use Rattle.stored.specs.Read.{ReadOutcome, leafRead, valuesOf, told, readOutcome, recordPart}

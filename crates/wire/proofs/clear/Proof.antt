@@ -6,7 +6,7 @@ use native.Mathlib.Omega.{arith}
 use borrow.Author.Fill.{fill-more}
 use lib.ListN.{length, length-set, drop}
 use lib.Seq.{drop-length}
-use Rattle.wire.specs.Runs.{zeros}
+use Rattle.wire.specs.Slices.{zeros}
 use Rattle.wire.proofs.clear.Statement.{statement}
 use Rattle.wire.proofs.clear.Tie as tie
 

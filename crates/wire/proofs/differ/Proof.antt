@@ -9,7 +9,7 @@ use native.Mathlib.Numerals.{add-one}
 use native.Mathlib.Omega.{arith}
 use lib.ListN.{length, take, getD}
 use lib.Seq.{take-suc, take-all}
-use Rattle.wire.specs.Runs.{differ}
+use Rattle.wire.specs.Slices.{differ}
 use Rattle.wire.proofs.Differences.{differ-same, differ-other}
 use Rattle.wire.proofs.differ.Statement.{statement}
 use Rattle.wire.proofs.differ.Tie as tie

@@ -7,7 +7,7 @@ use native.Mathlib.Omega.{arith}
 use borrow.Author.Needs.{needs}
 use lib.ListN.{length, take, drop, length-append, length-drop, drop-of-length-le}
 use lib.Seq.{length-take-le, take-length, take-append-le, drop-length, take-append-seam, drop-append-seam}
-use Rattle.wire.specs.Runs.{zeros, part}
+use Rattle.wire.specs.Slices.{zeros, part}
 use Rattle.wire.proofs.Parts.{part-short}
 use Rattle.wire.proofs.read_run.Statement.{statement}
 use Rattle.wire.proofs.read_run.Tie as tie

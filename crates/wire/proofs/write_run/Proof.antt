@@ -7,7 +7,7 @@ use native.Mathlib.Omega.{arith}
 use borrow.Author.Needs.{needs}
 use lib.ListN.{length, take, drop}
 use lib.Seq.{take-length}
-use Rattle.wire.specs.Runs.{splice, written}
+use Rattle.wire.specs.Slices.{splice, written}
 use Rattle.wire.proofs.Splices.{splice-front, splice-lent, written-fits, written-short}
 use Rattle.wire.proofs.write_run.Statement.{statement}
 use Rattle.wire.proofs.write_run.Tie as tie

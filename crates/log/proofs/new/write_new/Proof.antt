@@ -5,8 +5,7 @@ use Prim.Native.Nat.{ℕ, _-_}
 use lib.ListN.{length}
 use Rattle.wire.proofs.Splices.{written-length}
 use Rattle.digest.specs.Digest.{digestOf, digest-length}
-use Rattle.wire.specs.Runs.{splice}
-use Rattle.log.specs.Nodes.{joined}
+use Rattle.wire.specs.Slices.{splice, joined}
 use Rattle.log.specs.Steps.{leftIn, ups}
 use Rattle.log.proofs.Writing.{Writes, writes-none, writes-more, writes-all, tail-length}
 use borrow.Author.Needs.{needs}

@@ -1,9 +1,0 @@
--- The statement of a check leaves one answer.
-use mathlib.Core.Path.{_≡_}
-use Rattle.order.proofs.Laws.{determined}
-use Rattle.checker.specs.declared.Checked.{Checked}
-use Rattle.checker.specs.Outcome.{CheckOutcome, checked}
-
-pub check-only : (outcome : CheckOutcome) {r s : Checked} → checked r ≡ outcome → checked s ≡ outcome → r ≡ s
-check-only =
-    determined checked (λ r s e i. record { number = e i .number; index = e i .index; start = e i .start; length = e i .length })

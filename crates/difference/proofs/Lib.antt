@@ -1,0 +1,5 @@
+-- Laws of two inputs, of two lists of them, and of the answer.
+pub mod Differences
+pub mod Lists
+pub mod Settled
+pub mod Only

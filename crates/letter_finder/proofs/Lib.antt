@@ -1,0 +1,10 @@
+-- The laws of the finder.
+pub mod Parts
+pub mod Inputs
+pub mod Forks
+pub mod Turning
+pub mod Whole
+pub mod Formed
+pub mod Breaking
+pub mod Agreed
+pub mod Collides

@@ -1,0 +1,118 @@
+-- What writer, checker and finder promise together, of every log: the letters that we write are accepted; and bytes that are accepted are our
+-- letter, or the finder gives two different strings with one digest, one hashed in building the log or its root, the other in checking those bytes,
+-- at the same place in the tree.
+-- The statements stand at the end, for Blake3; above them is what they say, for any digest function. They speak of the outcomes that the contracts of
+-- the public calls cite, so they hold of the code.
+-- Nothing is claimed of nodes that are not the log's, beyond the refusals: of those the finder's own outcome alone speaks.
+use mathlib.Core.Logic.{_≢_}
+use mathlib.Core.Path.{_≡_}
+use mathlib.Core.List.{List, [], _++_, map}
+use Prim.Native.Nat.{ℕ, _^_, _≤_, _<_}
+use lib.ListN.{length, getD, drop}
+use Rattle.digest.specs.Digest.{digestOf}
+use Rattle.wire.specs.Numbers.{Bytes}
+use Rattle.wire.specs.Writers.{writeDone}
+use Rattle.shape.specs.Sizes.{sizeOf}
+use Rattle.shape.specs.Tree.{OnePlace}
+use Rattle.shape.specs.Folded.{tree}
+use Rattle.nodes.specs.Nodes.{Begins}
+use Rattle.log.specs.Runs.{Short}
+use Rattle.log.specs.Outcomes.{rootOutcome}
+use Rattle.letter.specs.Bytes.{indexIn}
+use Rattle.letter.specs.Items.{letterTree}
+use Rattle.letter_writer.specs.Outcome.{ourLetter, writeOutcome}
+use Rattle.letter_checker.specs.Outcome.{checkOutcome, recordBy}
+use Rattle.difference.specs.declared.Finding.the-variants.{Same, Records, Pair}
+use Rattle.difference.specs.Outcome.{FindOutcome}
+use Rattle.letter_finder.specs.Outcome.{findOutcome}
+
+-- a log: any list of 1 to 2^32 records, none above 16,384 bytes
+pub record Log (rs : List (List ℕ)) : Type 0 where
+  pub some : 1 ≤ length rs
+  pub few : length rs ≤ 2 ^ 32
+  pub short : Short rs
+
+-- its size, and its record at an index
+abbrev pub logSize : List (List ℕ) → ℕ
+logSize rs = sizeOf (length rs)
+
+abbrev pub recordAt : List (List ℕ) → ℕ → List ℕ
+recordAt rs i = getD rs i []
+
+-- our letter for index i, with the log's nodes in the buffer bs
+abbrev pub ours : (List ℕ → List ℕ) → List (List ℕ) → List ℕ → ℕ → List ℕ
+ours digest rs bs i = ourLetter digest (logSize rs) i (recordAt rs i) bs
+
+-- a log, its root, and a buffer with its nodes
+module _ (digest : List ℕ → List ℕ) (rs : List (List ℕ)) (root bs : List ℕ) where
+  -- the checker's outcome on these bytes is 0, the index i and the record r
+  pub record Accepted (letter : List ℕ) (i : ℕ) (r : List ℕ) : Type 0 where
+    pub number : checkOutcome digest (logSize rs) root letter .number ≡ 0
+    pub index : checkOutcome digest (logSize rs) root letter .index ≡ i
+    pub rec : recordBy (checkOutcome digest (logSize rs) root letter) letter ≡ r
+
+  -- the writer's outcome on the log's own record is our letter, and the checker's outcome on it is 0, the index and that record
+  pub record WrittenAndAccepted (i : ℕ) (out : List ℕ) : Type 0 where
+    pub written : writeOutcome digest (logSize rs) i (recordAt rs i) bs out ≡ writeDone (ours digest rs bs i) out
+    pub accepted : Accepted (ours digest rs bs i) i (recordAt rs i)
+
+  -- the finder's outcome, by its answer, for bytes that were accepted with the index i and the record r
+  pub data Ends (letter : List ℕ) (i : ℕ) (r first second : List ℕ) : FindOutcome → Type 0 where
+    -- the bytes are our letter for i; no byte of the buffers changed
+    ends-same : letter ≡ ours digest rs bs i
+        → Ends letter i r first second (record { number = 0; finding = Same; first = first; second = second })
+    -- r and the log's record differ and have one digest; no byte of the buffers changed
+    ends-records : r ≢ recordAt rs i → digest r ≡ digest (recordAt rs i)
+        → Ends letter i r first second (record { number = 0; finding = Records; first = first; second = second })
+    -- the first 64 bytes of the two buffers are a and b, which differ and have one digest; for one place in the folded tree a is what building the
+    -- log or its root hashes there, and b what checking those bytes hashes there; no other byte changed
+    ends-pair : (a b : List ℕ) → length a ≡ 64 → length b ≡ 64 → a ≢ b → digest a ≡ digest b
+        → OnePlace digest (tree (map digest rs)) (letterTree digest (length rs) letter) a b
+        → Ends letter i r first second (record { number = 0; finding = Pair; first = a ++ drop 64 first; second = b ++ drop 64 second })
+
+  -- for every index, with room in the output
+  abbrev pub EveryLetterAccepted : Type 0
+  EveryLetterAccepted = (i : ℕ) → i < length rs → (out : List ℕ) → length (ours digest rs bs i) ≤ length out → WrittenAndAccepted i out
+
+  -- for every list of bytes that is accepted with index i: the finder's own outcome on two buffers of at least 64 bytes, the nodes, the log's
+  -- record at i and those bytes
+  abbrev pub EveryAcceptedEnds : Type 0
+  EveryAcceptedEnds =
+      (letter : List ℕ) → Bytes letter → (i : ℕ) (r : List ℕ) → Accepted letter i r
+      → (first second : List ℕ) → 64 ≤ length first → 64 ≤ length second
+      → Ends letter i r first second (findOutcome digest (logSize rs) bs (recordAt rs i) letter first second)
+
+  -- the other direction: where the bytes are our letter, the finder says "same" and changes nothing ..
+  abbrev pub EveryOursSame : Type 0
+  EveryOursSame =
+      (i : ℕ) → i < length rs → (first second : List ℕ) → 64 ≤ length first → 64 ≤ length second
+      → findOutcome digest (logSize rs) bs (recordAt rs i) (ours digest rs bs i) first second
+      ≡ record { number = 0; finding = Same; first = first; second = second }
+
+  -- .. and where it says "same", of any record that it was given, they are the letter that we write for that record and the index that they name
+  abbrev pub EverySameOurs : Type 0
+  EverySameOurs =
+      (rec letter : List ℕ) → Bytes letter → (first second : List ℕ)
+      → findOutcome digest (logSize rs) bs rec letter first second .finding ≡ Same
+      → letter ≡ ourLetter digest (logSize rs) (indexIn letter) rec bs
+
+-- ---- the statements, for Blake3
+
+-- of every log, with its size, any buffer that begins with its nodes, and its root, which is what the log's own call answers (`root-of-log`)
+abbrev pub OfEveryLog : (List (List ℕ) → List ℕ → List ℕ → Type 0) → Type 0
+OfEveryLog Says = (rs : List (List ℕ)) → Log rs → (bs : List ℕ) → Begins digestOf bs rs → Says rs (rootOutcome digestOf (logSize rs) bs .digest) bs
+
+-- `letter-accepted`: our letters are accepted
+abbrev pub LetterAccepted : Type 0
+LetterAccepted = OfEveryLog (EveryLetterAccepted digestOf)
+
+-- `accepted-is-ours`: bytes that are accepted are our letter, or the finder gives two strings
+abbrev pub AcceptedIsOurs : Type 0
+AcceptedIsOurs = OfEveryLog (EveryAcceptedEnds digestOf)
+
+-- `ours-is-same`, `same-is-ours`: the other direction
+abbrev pub OursIsSame : Type 0
+OursIsSame = OfEveryLog (EveryOursSame digestOf)
+
+abbrev pub SameIsOurs : Type 0
+SameIsOurs = OfEveryLog (EverySameOurs digestOf)

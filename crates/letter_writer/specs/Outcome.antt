@@ -1,0 +1,31 @@
+-- What writing a letter returns, and what it leaves in the output buffer, for every input and any digest function.
+use mathlib.Core.List.{List, [], _∷_}
+use Prim.Native.Nat.{ℕ, _*_}
+use lib.ListN.{length}
+use Rattle.order.specs.Order.{Refusal, _if_, _is_, _is-not_, _above_, _under_, _not-below_, verdict}
+use Rattle.wire.specs.Writers.{WriteOutcome, writeRefused, writeDone}
+use Rattle.shape.specs.Sizes.{countAnswer, leaves}
+use Rattle.letter.specs.Bytes.{letterBytes}
+use Rattle.letter.specs.Items.{itemCount, itemsOf, foreign}
+
+module _ (digest : List ℕ → List ℕ) where
+  -- our letter for an index of a log of this size: its record, and the items that the log's nodes give
+  unfoldable pub ourLetter : ℕ → ℕ → List ℕ → List ℕ → List ℕ
+  ourLetter size index rec bs = letterBytes size index rec (itemsOf digest bs (leaves size) index)
+
+  -- no leaf count up to 2^32 has this size; index not below the leaf count; record above 16,384; node buffer under 32 × size bytes; more
+  -- than 32 items needed; record's digest isn't the leaf at its place; output buffer too short
+  unfoldable pub writeOrder : ℕ → ℕ → List ℕ → List ℕ → List ℕ → List Refusal
+  writeOrder size index rec bs out =
+      1 if countAnswer size .number is 1
+      ∷ 5 if index not-below leaves size
+      ∷ 3 if length rec above 16384
+      ∷ 4 if length bs under 32 * size
+      ∷ 15 if itemCount (leaves size) index above 32
+      ∷ 13 if foreign digest bs index rec is-not 0
+      ∷ 6 if length out under length (ourLetter size index rec bs)
+      ∷ []
+
+  unfoldable pub writeOutcome : ℕ → ℕ → List ℕ → List ℕ → List ℕ → WriteOutcome
+  writeOutcome size index rec bs out =
+      verdict (writeRefused out) (writeOrder size index rec bs out) (writeDone (ourLetter size index rec bs) out)

@@ -1,0 +1,4 @@
+-- Laws of nodes.
+pub mod Joined
+pub mod Folds
+pub mod From
