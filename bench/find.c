@@ -15,7 +15,7 @@ Digest gcc_digest, clang_digest;
 #define RECORD 200
 #define HEAD 20
 #define MOST 28
-static uint8_t record[RECORD], letter[HEAD + RECORD + MOST * NODE], root[NODE], log_input[2 * NODE], letter_input[2 * NODE];
+static uint8_t record[RECORD], letter[HEAD + RECORD + MOST * NODE], root[NODE], first[2 * NODE], second[2 * NODE];
 static uint8_t worked[NODE], folded[NODE], *nodes;
 
 /* A log, and an index in it whose peak has 2^height leaves. */
@@ -110,8 +110,8 @@ static void measure(const char *name, const Log *log, size_t length, uint32_t wa
     MEASURE("check", name, number = keeper_letter_check(log->size, root, NODE, letter, length, &checked, &at, &record_length));
     demand(number == wanted, "the check answers another number", name);
     MEASURE("find", name,
-            number = keeper_find(log->size, nodes, NODE * log->size, record, RECORD, letter, length, log_input, sizeof log_input, letter_input,
-                                 sizeof letter_input, &found));
+            number = keeper_find(log->size, nodes, NODE * log->size, record, RECORD, letter, length, first, sizeof first, second,
+                                 sizeof second, &found));
     demand(number == wanted, "the finder answers another number", name);
     demand(wanted != KEEPER_DONE || found == KEEPER_SAME, "the finder did not say same", name);
     MEASURE("gcc", name, digests(gcc_digest, log, wanted != KEEPER_DONE));

@@ -106,12 +106,12 @@ uint32_t keeper_letter_check(uint64_t size, const uint8_t *root, size_t root_len
 
 /* A letter compared with the log, where the log's own nodes accept it: record is the one that the log has at the letter's index. Compares, from the
    root down, each 64-byte input of the log with that of the letter. At the first difference found is KEEPER_PAIR, with the log's input in the first
-   64 bytes of log_input and the letter's in those of letter_input: two different strings with one digest. With none it compares the records:
+   64 bytes of first and the letter's in those of second: two different strings with one digest. With none it compares the records:
    KEEPER_RECORDS if they differ (record and the letter's are then the two strings), else KEEPER_SAME. The buffers change only for KEEPER_PAIR.
    1, 10, 4, then with the root of its own nodes 7 (under 20 bytes), 8, 5, 15, 3, 7 (the exact length), 9, then for record 3 and 13, then 14,
    6 (either buffer under 64, whatever the outcome). */
 uint32_t keeper_find(uint64_t size, const uint8_t *nodes, size_t nodes_len, const uint8_t *record, size_t record_len, const uint8_t *letter,
-                     size_t letter_len, uint8_t *log_input, size_t log_input_len, uint8_t *letter_input, size_t letter_input_len,
+                     size_t letter_len, uint8_t *first, size_t first_len, uint8_t *second, size_t second_len,
                      uint32_t *found);
 
 #ifdef __cplusplus

@@ -3,9 +3,10 @@ ghost use mathlib.Core.Path.{_≡_};
 ghost use Prim.Native.Nat.{_≤_};
 ghost use lib.ListN.{length};
 ghost use Rattle.blake.specs.Blake.{chunked};
+use crate::flags::CHUNK_END;
+use crate::flags::CHUNK_START;
 use compression::compress::compress;
 use compression::word::load;
-use compression::word::load_short;
 
 // The chaining words of chunk number n, of at most 1,024 bytes.
 pub(crate) fn chunk(key: [u32; 8], flag: u32, root: u32, n: u64, bytes: &[u8]) -> [u32; 8]
@@ -13,7 +14,7 @@ pub(crate) fn chunk(key: [u32; 8], flag: u32, root: u32, n: u64, bytes: &[u8]) -
     ensures { λ r. ⌜ r ≡ chunked key flag root n (now (bytes .entry)) ⌝ }
 {
     let mut cv = key;
-    let mut start: u32 = 1;
+    let mut start = CHUNK_START;
     let mut at: usize = 0;
     while 64 < bytes.len() - at {
         let end = at + 64;
@@ -25,9 +26,9 @@ pub(crate) fn chunk(key: [u32; 8], flag: u32, root: u32, n: u64, bytes: &[u8]) -
     let left = bytes.len() - at;
     compress(
         cv,
-        load_short(&bytes[at..]),
+        load(&bytes[at..]),
         n,
         left as u32,
-        flag + start + 2 + root,
+        flag + start + CHUNK_END + root,
     )
 }

@@ -4,6 +4,8 @@ ghost use Prim.Native.Nat.{_+_, _^_, _<_, _≤_};
 ghost use lib.ListN.{length};
 ghost use Rattle.blake.specs.Blake.{chunked};
 ghost use Rattle.blake.specs.Lanes.{laneOf, laned, part, compressed4};
+use crate::flags::CHUNK_END;
+use crate::flags::CHUNK_START;
 use compression::compress::compress_lane;
 use compression::word::load;
 
@@ -53,11 +55,11 @@ pub(crate) fn chunk4(key: [u32; 8], flag: u32, n: u64, bytes: &[u8]) -> [u32; 32
     ensures { λ r. ⌜ r ≡ laned (λ k. chunked key flag 0 (n + k) (part (now (bytes .entry)) k)) ⌝ }
 {
     let mut cv = spread(key);
-    let mut start: u32 = 1;
+    let mut start = CHUNK_START;
     for b in 0..15 {
         let next = compress4(cv, bytes, 64 * b, n, flag + start);
         cv = next;
         start = 0;
     }
-    compress4(cv, bytes, 960, n, flag + start + 2)
+    compress4(cv, bytes, 960, n, flag + start + CHUNK_END)
 }

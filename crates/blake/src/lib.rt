@@ -4,6 +4,7 @@ ghost use mathlib.Core.List.{_++_};
 ghost use Rattle.blake.specs.Blake.{plainHash};
 
 mod chunk;
+mod flags;
 mod lane;
 mod tree;
 

@@ -6,6 +6,9 @@ ghost use lib.ListN.{length};
 ghost use Rattle.blake.specs.Blake.{parented, treed, digested};
 ghost use Rattle.blake.specs.Room.{Room};
 use crate::chunk::chunk;
+use crate::flags::ONLY_BLOCK;
+use crate::flags::PARENT;
+use crate::flags::ROOT;
 use crate::lane::chunk4;
 use crate::lane::lane;
 use compression::compress::compress;
@@ -18,7 +21,7 @@ fn parent(key: [u32; 8], flag: u32, root: u32, l: [u32; 8], r: [u32; 8]) -> [u32
     requires { ⌜ (flag ≤ 16) × (root ≤ 8) ⌝ }
     ensures { λ v. ⌜ v ≡ parented key flag root l r ⌝ }
 {
-    compress(key, join(l, r), 0, 64, flag + 4 + root)
+    compress(key, join(l, r), 0, 64, flag + PARENT + root)
 }
 
 // The tree over four whole chunks.
@@ -81,7 +84,7 @@ pub(crate) fn digest_in(key: [u32; 8], flag: u32, bytes: &[u8]) -> [u8; 32]
     ensures { λ r. ⌜ r ≡ digested key flag (now (bytes .entry)) ⌝ }
 {
     let h = height(bytes.len());
-    unload(tree(h, key, flag, 8, 0, bytes))
+    unload(tree(h, key, flag, ROOT, 0, bytes))
 }
 
 // The digest of two digests in a mode: chunk start, chunk end and root on one block.
@@ -90,5 +93,5 @@ pub(crate) fn pair_in(key: [u32; 8], flag: u32, left: [u8; 32], right: [u8; 32])
     ensures { λ r. ⌜ r ≡ digested key flag (left ++ right) ⌝ }
 {
     let m = join(load_half(&left), load_half(&right));
-    unload(compress(key, m, 0, 64, flag + 11))
+    unload(compress(key, m, 0, 64, flag + ONLY_BLOCK))
 }

@@ -2,7 +2,7 @@
 pub mod Builds
 pub mod Fill
 pub mod Turns
-pub mod Order
+pub mod Permutation
 pub mod Rounds
 pub mod Quarters
 pub mod Blocks

@@ -6,7 +6,7 @@ ghost use lib.ListN.{length};
 ghost use Rattle.compression.specs.Compression.{turnRight, wordAt, wordsOf, bytesOf};
 
 // The word x turned right by k.
-pub fn turn(x: u32, k: u32) -> u32
+pub(crate) fn turn(x: u32, k: u32) -> u32
     requires { ⌜ (0 < k) × (k < 32) ⌝ }
     ensures { λ r. ⌜ r ≡ turnRight x k ⌝ }
 {
@@ -43,7 +43,7 @@ pub fn load_half(bytes: &[u8; 32]) -> [u32; 8]
 }
 
 // The sixteen words of a whole block.
-pub fn load(block: &[u8]) -> [u32; 16]
+fn whole(block: &[u8]) -> [u32; 16]
     requires { ⌜ 64 ≤ length (now block) ⌝ }
     ensures { λ r. ⌜ r ≡ wordsOf 16 (now (block .entry)) ⌝ }
 {
@@ -54,16 +54,26 @@ pub fn load(block: &[u8]) -> [u32; 16]
     out
 }
 
-// The sixteen words of a block that may be short, padded with zeros.
-pub fn load_short(block: &[u8]) -> [u32; 16]
+// The sixteen words of a block that is short, padded with zeros.
+fn padded(block: &[u8]) -> [u32; 16]
     requires { ⌜ length (now block) ≤ 64 ⌝ }
     ensures { λ r. ⌜ r ≡ wordsOf 16 (now (block .entry)) ⌝ }
 {
-    let mut padded = [0u8; 64];
+    let mut bytes = [0u8; 64];
     for i in 0..block.len() {
-        padded[i] = block[i];
+        bytes[i] = block[i];
     }
-    load(&padded)
+    whole(&bytes)
+}
+
+// The first sixteen words of a block, padded with zeros where it is short.
+pub fn load(block: &[u8]) -> [u32; 16]
+    ensures { λ r. ⌜ r ≡ wordsOf 16 (now (block .entry)) ⌝ }
+{
+    if 64 <= block.len() {
+        return whole(block);
+    }
+    padded(block)
 }
 
 // Eight words, then eight more.

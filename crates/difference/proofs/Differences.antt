@@ -9,7 +9,7 @@ use Rattle.wire.proofs.Differences.{differ-same, differ-other, same-of-differ}
 use Rattle.shape.specs.Difference.{decided, Diff, difference}
 use Rattle.shape.proofs.Difference.{difference-same, difference-other}
 use Rattle.shape.proofs.Bind.{fronts, backs}
-use Rattle.difference.specs.Steps.{above}
+use Rattle.difference.specs.Inputs.{above}
 
 -- two inputs differ by their left halves, where these do,
 pub apart-left : (l r x y : List ℕ) → length l ≡ length x → differ l x ≢ 0 → differ l x ≡ differ (l ++ r) (x ++ y)

@@ -10,7 +10,7 @@ use Rattle.shape.specs.Difference.{Diff, agree, difference}
 use Rattle.difference.specs.declared.first.Input.{Input}
 use Rattle.difference.specs.declared.first.Difference.{Difference}
 use Rattle.difference.specs.Outcome.{inBoth, givenDifference}
-use Rattle.difference.specs.Steps.{bytesOf, above, told}
+use Rattle.difference.specs.Inputs.{bytesOf, above, told}
 use Rattle.difference.proofs.Differences.{above-is}
 
 -- the first difference of the inputs from number k on, of m

@@ -12,7 +12,7 @@ use Rattle.difference.specs.declared.Finding.the-variants.{Nothing, Same
 use Rattle.difference.specs.declared.Found.{Found}
 use Rattle.difference.specs.declared.first.Difference.{Difference}
 use Rattle.difference.specs.Outcome.{found, findRefused, findDone}
-use Rattle.difference.specs.Steps.{bytesOf, above, told}
+use Rattle.difference.specs.Inputs.{bytesOf, above, told}
 
 pub refused-as : (first second : List ℕ) (k : ℕ) {r : Found} → r ≡ record { number = k; finding = Nothing } → found r first second ≡ findRefused first second k
 refused-as first second k e = ap (λ (r : Found). found r first second) e

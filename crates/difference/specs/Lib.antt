@@ -1,3 +1,3 @@
 -- What a comparison answers, and what the code's own values are called.
-pub mod Steps
+pub mod Inputs
 pub mod Outcome

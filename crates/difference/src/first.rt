@@ -4,7 +4,7 @@ ghost use Prim.Native.Nat.{_*_, _^_, _≤_};
 ghost use Rattle.wire.specs.Slices.{part, differ};
 ghost use Rattle.shape.specs.Difference.{agree};
 ghost use Rattle.difference.specs.Outcome.{inBoth, givenDifference};
-ghost use Rattle.difference.specs.Steps.{bytesOf, told, above};
+ghost use Rattle.difference.specs.Inputs.{bytesOf, told, above};
 use digest::Digest;
 
 // What is hashed at a place: two digests, left then right, 64 bytes.

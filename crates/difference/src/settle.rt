@@ -3,7 +3,7 @@ ghost use mathlib.Core.Path.{_≡_};
 ghost use lib.ListN.{length};
 ghost use Rattle.wire.specs.Slices.{written};
 ghost use Rattle.difference.specs.Outcome.{found, settled};
-ghost use Rattle.difference.specs.Steps.{bytesOf, told};
+ghost use Rattle.difference.specs.Inputs.{bytesOf, told};
 use crate::Finding;
 use crate::Found;
 use crate::first::Difference;

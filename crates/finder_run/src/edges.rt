@@ -11,7 +11,7 @@ use runs::given::restate;
 use runs::lines::say_numbers;
 
 // The nodes of the log.
-fn nodes_of() -> [u8; 512] {
+fn edge_nodes() -> [u8; 512] {
     let mut nodes = [0u8; 512];
     let mut size: u64 = 0;
     for k in 0..7 {
@@ -23,7 +23,7 @@ fn nodes_of() -> [u8; 512] {
 
 // The nodes with a byte flipped.
 fn damaged(at: usize) -> [u8; 512] {
-    let mut out = nodes_of();
+    let mut out = edge_nodes();
     flip(&mut out, at);
     out
 }
@@ -31,7 +31,7 @@ fn damaged(at: usize) -> [u8; 512] {
 // The letter as it states another size, index and record length, with a byte flipped.
 fn restated(named: u64, index: u64, stated: u64, at: usize) -> [u8; 400] {
     let mut out = [0u8; 400];
-    letter_of(11, 3, &nodes_of(), &mut out);
+    letter_of(11, 3, &edge_nodes(), &mut out);
     restate(&mut out, named, index, stated);
     flip(&mut out, at);
     out

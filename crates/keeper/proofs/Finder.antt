@@ -13,7 +13,7 @@ use Rattle.difference.specs.declared.Found.{Found}
 use Rattle.difference.specs.Outcome.{FindOutcome, found, findRefused, findDone}
 use Rattle.letter_finder.specs.Outcome.{firstDifference, findOrder, findOutcome}
 use Rattle.difference.proofs.Settled.{done-zero}
-use Rattle.letter_finder.proofs.Parts.{find-numbered}
+use Rattle.letter_finder.proofs.Stages.{find-numbered}
 use Rattle.keeper.specs.Finder.{FindLeft, findLeft, findingNumber, findWritten, findCall}
 use Rattle.keeper.proofs.Kept.{kept-refused, kept-done}
 

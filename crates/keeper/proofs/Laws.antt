@@ -16,32 +16,32 @@ use Rattle.wire.specs.Writers.{WriteOutcome, wrote, writeRefused, writeDone}
 use Rattle.wire.proofs.Splices.{written-fits}
 use Rattle.log.specs.declared.Appended.{Appended}
 use Rattle.log.specs.declared.Rooted.{Rooted}
-use Rattle.log.specs.Outcomes.{AppendOutcome, appended, appendRefused, appendOrder, appendDone, appendOutcome, rooted, RootOutcome, rootRefused, rootOrder, rootDone, rootOutcome}
+use Rattle.log.specs.Outcome.{AppendOutcome, appended, appendRefused, appendOrder, appendDone, appendOutcome, rooted, RootOutcome, rootRefused, rootOrder, rootDone, rootOutcome}
 use Rattle.keeper.specs.Calls.{appendLeft, appendCall, Filled, filled, unfilled, outOrder, digestCall, rootCall, writeLeft, writeCall}
 use Rattle.keeper.proofs.Kept.{kept-refused, kept-done, refused-first, rest-decides}
 
 -- ---- Append
 
-module _ (size : ℕ) (rec bs : List ℕ) (oldSize oldCount : ℕ) (r : Appended) (x : List ℕ)
+module _ (size : ℕ) (rec bs : List ℕ) (oldSize oldHashes : ℕ) (r : Appended) (x : List ℕ)
     (e : appended r x ≡ appendOutcome digestOf size rec bs) where
   abbrev number : AppendOutcome → ℕ
   number o = o .number
 
   -- a refusal leaves what was there; a done append puts its two results behind the pointers
   abbrev kept : ℕ → AppendOutcome
-  kept n = appendLeft n oldSize oldCount bs
+  kept n = appendLeft n oldSize oldHashes bs
 
   abbrev left : AppendOutcome → AppendOutcome
-  left o = appendLeft 0 (o .size) (o .count) (o .bytes)
+  left o = appendLeft 0 (o .size) (o .hashes) (o .bytes)
 
-  pub append-refused : r .number ≢ 0 → appendLeft (r .number) oldSize oldCount x ≡ appendCall size rec bs oldSize oldCount
+  pub append-refused : r .number ≢ 0 → appendLeft (r .number) oldSize oldHashes x ≡ appendCall size rec bs oldSize oldHashes
   unfolding appendOutcome appendCall appendDone
   append-refused k =
       let g = refusal number (appendRefused size bs) (appendOrder size rec bs) (appendDone digestOf size rec bs) (λ n. refl) refl e k in
-      ap (appendLeft (r .number) oldSize oldCount) (ap (λ (o : AppendOutcome). o .bytes) g)
+      ap (appendLeft (r .number) oldSize oldHashes) (ap (λ (o : AppendOutcome). o .bytes) g)
       ∙ kept-refused number (appendRefused size bs) (appendOrder size rec bs) (appendDone digestOf size rec bs) (λ n. refl) refl e kept left k
 
-  pub append-done : r .number ≡ 0 → appendLeft 0 (r .size) (r .count) x ≡ appendCall size rec bs oldSize oldCount
+  pub append-done : r .number ≡ 0 → appendLeft 0 (r .size) (r .hashes) x ≡ appendCall size rec bs oldSize oldHashes
   unfolding appendOutcome appendCall appendDone appendOrder
   append-done =
       kept-done number (appendRefused size bs) (appendOrder size rec bs) (appendDone digestOf size rec bs) (λ n. refl) refl e kept left tt
@@ -74,7 +74,7 @@ module _ (size : ℕ) (bs out : List ℕ) (r : Rooted) (e : rooted r ≡ rootOut
   root-refused =
       refused-first rootNumber rootRefused (rootOrder size bs) (rootDone digestOf size bs) (λ n. refl) refl e (unfilled out) (outOrder out) _
 
-  rest : {y : Filled} → r .number ≡ 0 → y ≡ verdict (unfilled out) (outOrder out) (filled 0 (splice 0 (rootDone digestOf size bs .digest) out))
+  rest : {y : Filled} → r .number ≡ 0 → y ≡ verdict (unfilled out) (outOrder out) (filled 0 (splice 0 (rootDone digestOf size bs .root) out))
       → y ≡ rootCall size bs out
   unfolding rootOutcome rootCall rootDone rootOrder
   rest z =
@@ -83,15 +83,15 @@ module _ (size : ℕ) (bs out : List ℕ) (r : Rooted) (e : rooted r ≡ rootOut
   pub root-short : r .number ≡ 0 → length out < 32 → filled 6 out ≡ rootCall size bs out
   root-short z h = rest z (refuses 6 _ _ _ refl (search needs))
 
-  root-is : r .number ≡ 0 → r .digest .bytes ≡ rootDone digestOf size bs .digest
+  root-is : r .number ≡ 0 → r .root .bytes ≡ rootDone digestOf size bs .root
   unfolding rootOutcome rootDone rootOrder
   root-is z =
-      ap (λ (o : RootOutcome). o .digest) (accepted rootNumber rootRefused (rootOrder size bs) (rootDone digestOf size bs) (λ n. refl) refl e tt z .1)
+      ap (λ (o : RootOutcome). o .root) (accepted rootNumber rootRefused (rootOrder size bs) (rootDone digestOf size bs) (λ n. refl) refl e tt z .1)
 
-  pub root-done : (y : List ℕ) → r .number ≡ 0 → 32 ≤ length out → length (r .digest .bytes) ≡ 32
-      → y ≡ written 0 (r .digest .bytes) out → filled 0 y ≡ rootCall size bs out
+  pub root-done : (y : List ℕ) → r .number ≡ 0 → 32 ≤ length out → length (r .root .bytes) ≡ 32
+      → y ≡ written 0 (r .root .bytes) out → filled 0 y ≡ rootCall size bs out
   root-done y z h l w =
-      let f = fits (r .digest .bytes) out y l h w in
+      let f = fits (r .root .bytes) out y l h w in
       rest z (passes _ _ _ (ap (filled 0) (f ∙ ap (λ (d : List ℕ). splice 0 d out) (root-is z))) (search needs))
 
 -- ---- A writer

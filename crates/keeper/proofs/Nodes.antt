@@ -19,7 +19,7 @@ use Rattle.stored.specs.declared.Node.the-variants.{Inner, Leaf, NotANode, Reco
 use Rattle.stored.specs.declared.Reading.{Reading}
 use Rattle.stored.specs.Nodes.{innerBytes, flagIn, digestIn, statedIn}
 use Rattle.stored.specs.Write.{innerOrder, innerOutcome}
-use Rattle.stored.specs.Read.{ReadOutcome, innerRead, leafRead, readRefused, valuesOf, told, readOrder, readDone, readOutcome}
+use Rattle.stored.specs.Read.{ReadOutcome, innerRead, leafRead, readRefused, valuesOf, readOff, readOrder, readDone, readOutcome}
 use Rattle.keeper.specs.Calls.{outOrder, writeLeft, writeCall}
 use Rattle.keeper.specs.Nodes.{storeInnerCall, ReadLeft, readLeft, kindNumber, readWritten, readCall}
 use Rattle.keeper.proofs.Kept.{refused-first, rest-decides}
@@ -84,7 +84,7 @@ of-inner (Leaf n) digest z s = absurd (omega arith)
 of-inner NotANode digest z s = absurd (omega arith)
 of-inner RecordTooLong digest z s = absurd (omega arith)
 
-module _ (bs : List ℕ) (oldKind : ℕ) (out : List ℕ) (oldStart oldLength : ℕ) (r : Reading) (e : told r ≡ readOutcome bs) where
+module _ (bs : List ℕ) (oldKind : ℕ) (out : List ℕ) (oldStart oldLength : ℕ) (r : Reading) (e : readOff r ≡ readOutcome bs) where
   abbrev readNumber : ReadOutcome → ℕ
   readNumber o = o .number
 
@@ -92,33 +92,33 @@ module _ (bs : List ℕ) (oldKind : ℕ) (out : List ℕ) (oldStart oldLength : 
   unread n = readLeft n oldKind out oldStart oldLength
 
   -- the reader refuses; the output is short; the results go behind their pointers
-  pub read-refused : (n : ℕ) → n ≡ told r .number → n ≢ 0 → unread n ≡ readCall bs oldKind out oldStart oldLength
+  pub read-refused : (n : ℕ) → n ≡ readOff r .number → n ≢ 0 → unread n ≡ readCall bs oldKind out oldStart oldLength
   unfolding readOutcome readCall
   read-refused n f k =
       ap unread f
       ∙ refused-first readNumber (readRefused (zeros 32)) (readOrder bs) (readDone bs) (λ n. refl) (done-facts bs .0) e unread (outOrder out) _
       (λ z. k (f ∙ z))
 
-  rest : {y : ReadLeft} → told r .number ≡ 0 → y ≡ verdict unread (outOrder out) (readWritten (readDone bs) out)
+  rest : {y : ReadLeft} → readOff r .number ≡ 0 → y ≡ verdict unread (outOrder out) (readWritten (readDone bs) out)
       → y ≡ readCall bs oldKind out oldStart oldLength
   unfolding readOutcome readCall
   rest z =
       rest-decides readNumber (readRefused (zeros 32)) (readOrder bs) (readDone bs) (λ n. refl) (done-facts bs .0) e unread (outOrder out) _
       (read-numbered bs) z
 
-  pub read-short : told r .number ≡ 0 → length out < 32 → unread 6 ≡ readCall bs oldKind out oldStart oldLength
+  pub read-short : readOff r .number ≡ 0 → length out < 32 → unread 6 ≡ readCall bs oldKind out oldStart oldLength
   read-short z h = rest z (refuses 6 _ _ _ refl (search needs))
 
-  read-is : told r .number ≡ 0 → told r ≡ readDone bs
+  read-is : readOff r .number ≡ 0 → readOff r ≡ readDone bs
   unfolding readOutcome
   read-is z =
       accepted readNumber (readRefused (zeros 32)) (readOrder bs) (readDone bs) (λ n. refl) (done-facts bs .0) e (read-numbered bs) z .1
 
   -- o is what the reader's answer tells, and y the output with its digest
-  pub read-done : (o : ReadOutcome) (y : List ℕ) → told r ≡ o → o .number ≡ 0 → 32 ≤ length out → y ≡ written 0 (o .digest) out
+  pub read-done : (o : ReadOutcome) (y : List ℕ) → readOff r ≡ o → o .number ≡ 0 → 32 ≤ length out → y ≡ written 0 (o .digest) out
       → readLeft 0 (kindNumber (o .kind)) y (o .start) (o .length) ≡ readCall bs oldKind out oldStart oldLength
   read-done o y p z h w =
-      let t : told r .number ≡ 0 = ap readNumber p ∙ z in
+      let t : readOff r .number ≡ 0 = ap readNumber p ∙ z in
       let d : o ≡ readDone bs = sym p ∙ read-is t in
       let f = fits (o .digest) out y (ap (λ (o : ReadOutcome). length (o .digest)) d ∙ done-facts bs .1) h w in
       let g = ap (λ (l : List ℕ). readLeft 0 (kindNumber (o .kind)) l (o .start) (o .length)) f in

@@ -3,7 +3,7 @@ use mathlib.Core.Path.{_≡_, sym, _∙_}
 use mathlib.Core.List.{List}
 use Prim.Native.Nat.{ℕ}
 use Rattle.shape.specs.Answers.{Answer}
-use Rattle.log.specs.Outcomes.{AppendOutcome}
+use Rattle.log.specs.Outcome.{AppendOutcome}
 use Rattle.wire.specs.Writers.{WriteOutcome}
 use Rattle.letter_checker.specs.Outcome.{CheckOutcome}
 use Rattle.keeper.specs.Calls.{answered, appendLeft, Filled, filled, writeLeft}
@@ -18,7 +18,7 @@ answered-only x m n v w p q = let e = p ∙ sym q in (λ i. e i .number, λ i. e
 -- an append: the number, the two result variables, and the nodes
 pub append-only : (x : AppendOutcome) (m n s t h k : ℕ) (bs cs : List ℕ) → appendLeft m s h bs ≡ x → appendLeft n t k cs ≡ x
     → (m ≡ n) × (s ≡ t) × (h ≡ k) × (bs ≡ cs)
-append-only x m n s t h k bs cs p q = let e = p ∙ sym q in (λ i. e i .number, λ i. e i .size, λ i. e i .count, λ i. e i .bytes)
+append-only x m n s t h k bs cs p q = let e = p ∙ sym q in (λ i. e i .number, λ i. e i .size, λ i. e i .hashes, λ i. e i .bytes)
 
 -- a digest written out: the number, and the output buffer
 pub filled-only : (x : Filled) (m n : ℕ) (bs cs : List ℕ) → filled m bs ≡ x → filled n cs ≡ x → (m ≡ n) × (bs ≡ cs)

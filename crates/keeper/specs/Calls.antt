@@ -9,7 +9,7 @@ use Rattle.order.specs.Order.{Refusal, _if_, _under_, verdict}
 use Rattle.shape.specs.Answers.{Answer}
 use Rattle.wire.specs.Slices.{splice}
 use Rattle.wire.specs.Writers.{WriteOutcome, writeDone}
-use Rattle.log.specs.Outcomes.{AppendOutcome, appendOrder, appendDone, rootOrder, rootDone}
+use Rattle.log.specs.Outcome.{AppendOutcome, appendOrder, appendDone, rootOrder, rootDone}
 
 -- ---- Sizes, positions, counts
 
@@ -25,12 +25,12 @@ over old a = elim (eqb (a .number) 0) [ true ↦ a | false ↦ answered (a .numb
 
 -- 01's number, the new size and the hash count behind their pointers, and the nodes, at return
 abbrev pub appendLeft : ℕ → ℕ → ℕ → List ℕ → AppendOutcome
-appendLeft number size count bs = record { number = number; size = size; count = count; bytes = bs }
+appendLeft number size hashes bs = record { number = number; size = size; hashes = hashes; bytes = bs }
 
--- the result variables held `oldSize` and `oldCount`
+-- the result variables held `oldSize` and `oldHashes`
 unfoldable pub appendCall : ℕ → List ℕ → List ℕ → ℕ → ℕ → AppendOutcome
-appendCall size rec bs oldSize oldCount =
-    verdict (λ number. appendLeft number oldSize oldCount bs) (appendOrder size rec bs) (appendDone digestOf size rec bs)
+appendCall size rec bs oldSize oldHashes =
+    verdict (λ number. appendLeft number oldSize oldHashes bs) (appendOrder size rec bs) (appendDone digestOf size rec bs)
 
 -- ---- A digest written out
 
@@ -57,7 +57,7 @@ digestCall bs out = verdict (unfilled out) (outOrder out) (filled 0 (splice 0 (d
 -- the root, in the first 32 bytes of the output: 1, 10, 4, then 6
 unfoldable pub rootCall : ℕ → List ℕ → List ℕ → Filled
 rootCall size bs out =
-    verdict (unfilled out) (rootOrder size bs ++ outOrder out) (filled 0 (splice 0 (rootDone digestOf size bs .digest) out))
+    verdict (unfilled out) (rootOrder size bs ++ outOrder out) (filled 0 (splice 0 (rootDone digestOf size bs .root) out))
 
 -- ---- A writer
 

@@ -82,7 +82,7 @@ pub extern "C" fn keeper_append(
         return a.number;
     }
     *new_size = a.size;
-    *hashes = a.count;
+    *hashes = a.hashes;
     0
 }
 
@@ -98,7 +98,7 @@ pub extern "C" fn keeper_root(size: u64, nodes: &[u8], out: &mut [u8]) -> u32
     if out.len() < 32 {
         return 6;
     }
-    let d = r.digest;
+    let d = r.root;
     let b = d.bytes;
     wire::write_digest(out, 0, b);
     0
@@ -216,7 +216,7 @@ pub extern "C" fn keeper_letter_check(
 }
 
 // What the finder finds, as C has it: 1 for "same", 2 for "records", 3 for "pair".
-fn number_of(finding: Finding) -> u32
+fn finding_number(finding: Finding) -> u32
     ensures { λ r. ⌜ r ≡ findingNumber finding ⌝ }
 {
     match finding {
@@ -235,19 +235,19 @@ pub extern "C" fn keeper_find(
     nodes: &[u8],
     rec: &[u8],
     letter: &[u8],
-    log_input: &mut [u8],
-    letter_input: &mut [u8],
+    first: &mut [u8],
+    second: &mut [u8],
     found: &mut u32,
 ) -> u32
-    ensures { λ r. ⌜ findLeft r (now (found .exit)) (now («log_input» .exit)) (now («letter_input» .exit))
+    ensures { λ r. ⌜ findLeft r (now (found .exit)) (now (first .exit)) (now (second .exit))
         ≡ findCall size (now (nodes .entry)) (now (rec .entry)) (now (letter .entry))
-        (now («log_input» .entry)) (now («letter_input» .entry)) (now (found .entry)) ⌝ }
+        (now (first .entry)) (now (second .entry)) (now (found .entry)) ⌝ }
 {
-    let f = letter_finder::find(size, nodes, rec, letter, log_input, letter_input);
+    let f = letter_finder::find(size, nodes, rec, letter, first, second);
     if f.number != 0 {
         return f.number;
     }
     let finding = f.finding;
-    *found = number_of(finding);
+    *found = finding_number(finding);
     0
 }

@@ -13,7 +13,7 @@ use Rattle.wire.proofs.Lent.{slice-part}
 use Rattle.shape.specs.Tree.{root}
 use Rattle.letter.specs.Bytes.{head, indexIn, statedIn, recordIn, itemsIn}
 use Rattle.letter.specs.Items.{itemCount, treeOf, letterTree, workedRoot}
-use Rattle.letter.specs.Order.{itemsFor, FieldsOutcome, takenApart, fieldsRefused, fieldsOrder, fieldsOutcome}
+use Rattle.letter.specs.Checking.{itemsFor, FieldsOutcome, takenApart, fieldsRefused, fieldsOrder, fieldsOutcome}
 use Rattle.letter.specs.declared.Fields.{Fields}
 use Rattle.wire.proofs.Rows.{digests-drop}
 

@@ -9,7 +9,7 @@ use Rattle.wire.specs.Numbers.{Bytes}
 use Rattle.wire.proofs.Differences.{differ-same, same-of-differ}
 use Rattle.letter.specs.Bytes.{letterBytes, sizeIn, indexIn, statedIn, recordIn, itemsIn}
 use Rattle.letter.specs.Items.{workedRoot}
-use Rattle.letter.specs.Order.{itemsFor, exactLength, fieldsOrder, from7}
+use Rattle.letter.specs.Checking.{itemsFor, exactLength, fieldsOrder, from7}
 use Rattle.letter.proofs.Spelling.{spelt}
 
 module _ (digest : List ℕ → List ℕ) (size n : ℕ) (root letter : List ℕ) where

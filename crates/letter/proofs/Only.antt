@@ -2,7 +2,7 @@
 use mathlib.Core.Path.{_≡_}
 use Rattle.order.proofs.Laws.{determined}
 use Rattle.letter.specs.declared.Fields.{Fields}
-use Rattle.letter.specs.Order.{FieldsOutcome, takenApart}
+use Rattle.letter.specs.Checking.{FieldsOutcome, takenApart}
 
 pub fields-only : (outcome : FieldsOutcome) {r s : Fields} → takenApart r ≡ outcome → takenApart s ≡ outcome → r ≡ s
 fields-only =

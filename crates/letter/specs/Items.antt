@@ -5,6 +5,7 @@ use mathlib.Core.List.{List, [], map}
 use Prim.Native.Nat.{ℕ, _^_}
 use lib.Dec.{ltb, leb}
 use lib.ListN.{length}
+use Rattle.wire.specs.Limits.{mostLeaves}
 use Rattle.wire.specs.Slices.{differ}
 use Rattle.shape.specs.Sizes.{positionAnswer}
 use Rattle.shape.specs.Positions.{itemPositions, fold}
@@ -26,7 +27,7 @@ module _ (digest : List ℕ → List ℕ) where
   -- the leaf upward; if peaks stand to the right, one digest, those peaks folded as for the root. Other numbers have no items
   unfoldable pub itemsOf : List ℕ → ℕ → ℕ → List (List ℕ)
   itemsOf bs n i =
-      elim (ltb i n && leb n (2 ^ 32)) [ true ↦ map (fold digest (nodeIn bs)) (itemPositions n i) | false ↦ [] ]
+      elim (ltb i n && leb n mostLeaves) [ true ↦ map (fold digest (nodeIn bs)) (itemPositions n i) | false ↦ [] ]
 
   -- 1 where a record's digest isn't the leaf at its place, else 0
   unfoldable pub foreign : List ℕ → ℕ → List ℕ → ℕ

@@ -1,6 +1,6 @@
 // What a proof letter is: taken apart, its items counted, and its record held to the leaf.
 ghost use mathlib.Core.Path.{_≡_};
-ghost use Rattle.letter.specs.Order.{takenApart, fieldsRefused, fieldsOutcome};
+ghost use Rattle.letter.specs.Checking.{takenApart, fieldsRefused, fieldsOutcome};
 
 pub mod count;
 pub mod leaf;
@@ -48,7 +48,7 @@ pub fn take_apart(size: u64, n: u64, letter: &[u8]) -> Fields
         return fields_refused(15);
     }
     let stated = wire::read4(letter, 16) as usize;
-    if 16384 < stated {
+    if wire::LONGEST_RECORD < stated {
         return fields_refused(3);
     }
     let end = HEAD + stated;

@@ -9,7 +9,7 @@ use lib.Dec.{T}
 use lib.ListN.{length}
 use Rattle.order.proofs.Laws.{numbered, accepted, passes, refusal}
 use Rattle.shape.specs.Sizes.{countAnswer, leaves}
-use Rattle.letter.specs.Order.{fieldsOrder, from7}
+use Rattle.letter.specs.Checking.{fieldsOrder, from7}
 use Rattle.letter.proofs.Fits.{Fits, pass-fits, fits-pass}
 use Rattle.letter_checker.specs.Outcome.{CheckOutcome, checkRefused, checkDone, checkOrder, checkOutcome}
 

@@ -11,7 +11,7 @@ use Rattle.shape.specs.Sizes.{countAnswer, leaves}
 use Rattle.letter.specs.declared.Fields.{Fields}
 use Rattle.letter.specs.Bytes.{statedIn}
 use Rattle.letter.specs.Items.{workedRoot}
-use Rattle.letter.specs.Order.{takenApart, fieldsOrder, fieldsOutcome, from7}
+use Rattle.letter.specs.Checking.{takenApart, fieldsOrder, fieldsOutcome, from7}
 use Rattle.letter.proofs.Apart.{Apart, apart-number}
 use Rattle.letter_checker.specs.Outcome.{CheckOutcome, checkRefused, checkDone, checkOrder, checkOutcome}
 

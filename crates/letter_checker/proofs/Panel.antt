@@ -15,7 +15,7 @@ use Rattle.wire.specs.Slices.{part}
 use Rattle.wire.proofs.Parts.{part-take}
 use Rattle.shape.specs.Sizes.{leaves}
 use Rattle.letter.specs.Bytes.{sizeIn, indexIn, statedIn}
-use Rattle.letter.specs.Order.{fieldsOrder, from7}
+use Rattle.letter.specs.Checking.{fieldsOrder, from7}
 use Rattle.letter_checker.specs.Outcome.{CheckOutcome, checkRefused, checkDone, checkOrder, checkOutcome, judged}
 
 -- the front of a letter has its fields

@@ -14,7 +14,7 @@ use Rattle.shape.proofs.Letters.{fill-alike, fill-32, fill-inj}
 use Rattle.shape.specs.Sizes.{leaves}
 use Rattle.letter.specs.Bytes.{letterBytes, indexIn, recordIn, itemsIn}
 use Rattle.letter.specs.Items.{itemCount, treeOf, letterTree, workedRoot}
-use Rattle.letter.specs.Order.{itemsFor}
+use Rattle.letter.specs.Checking.{itemsFor}
 use Rattle.letter.proofs.Spelling.{items-length, items-32}
 use Rattle.letter.proofs.Fits.{Fits, fits-spelt}
 use Rattle.letter_checker.specs.Outcome.{CheckOutcome, checkOutcome}

@@ -11,7 +11,7 @@ use Rattle.wire.specs.Slices.{part}
 use Rattle.wire.specs.Lent.{Part, partOf}
 use Rattle.shape.specs.Sizes.{countAnswer, leaves}
 use Rattle.letter.specs.Bytes.{head, indexIn, statedIn}
-use Rattle.letter.specs.Order.{from7}
+use Rattle.letter.specs.Checking.{from7}
 use Rattle.letter_checker.specs.declared.Checked.{Checked}
 
 -- the number, the index, and the record as a part of the letter: where it starts in it, and its length

@@ -6,7 +6,6 @@ ghost use Rattle.letter_checker.specs.Outcome.{checked, checkRefused, ch
 use shape::Counted;
 
 // The answer of a check: 01's number, the index, and where the record lies in the letter. A refusal has 0 for these.
-#[repr(C)]
 pub struct Checked {
     pub number: u32,
     pub index: u64,

@@ -29,12 +29,12 @@ use Rattle.shape.proofs.Ways.{way-low, way-left, way-right, way-past}
 use Rattle.shape.proofs.Peaks.{peaks-low, peaks-full, peaks-some}
 use Rattle.shape.proofs.Seen.{seen-low, seen-left, seen-right, topDiffers, broken-low, broken-left, broken-right}
 use Rattle.nodes.specs.Nodes.{nodeIn}
-use Rattle.log.specs.Outcomes.{rootOrder}
+use Rattle.log.specs.Outcome.{rootOrder}
 use Rattle.shape.proofs.Counting.{counts-known}
 use Rattle.order.specs.Order.{Refusal}
 use Rattle.letter.specs.Bytes.{indexIn, recordIn, itemsIn}
 use Rattle.letter.specs.Items.{itemCount, foreign, letterTree, workedRoot}
-use Rattle.letter.specs.Order.{from7}
+use Rattle.letter.specs.Checking.{from7}
 use Rattle.letter.proofs.Fits.{Fits, pass-fits}
 use Rattle.nodes.proofs.Joined.{node-length}
 use Rattle.letter.proofs.Spelling.{items-length, items-32}
@@ -42,7 +42,7 @@ use Rattle.difference.specs.declared.Finding.the-variants.{Same, Records, Pair}
 use Rattle.difference.specs.Outcome.{FindOutcome, findRefused, findDone, roomOrder}
 use Rattle.letter_finder.specs.Outcome.{ownRoot, firstDifference, ownOrder, findOrder, findOutcome}
 use Rattle.difference.proofs.Settled.{done-zero}
-use Rattle.letter_finder.proofs.Parts.{find-numbered, find-checked}
+use Rattle.letter_finder.proofs.Stages.{find-numbered, find-checked}
 
 -- where neither of two is 1
 either-zero : (x y : ℕ) → either x y ≡ 0 → (x ≡ 0) × (y ≡ 0)

@@ -18,8 +18,8 @@ use Rattle.shape.proofs.Seen.{top-full, top-fold}
 use Rattle.nodes.specs.Nodes.{nodeIn}
 use Rattle.difference.specs.declared.first.Input.{Input}
 use Rattle.letter_finder.specs.declared.walk.Trail.{Trail}
-use Rattle.difference.specs.Steps.{bytesOf, above, told}
-use Rattle.letter_finder.specs.Steps.{crown, Joined, lettered, Walked}
+use Rattle.difference.specs.Inputs.{bytesOf, above, told}
+use Rattle.letter_finder.specs.Steps.{crown, OneFork, lettered, Walked}
 use Rattle.difference.proofs.Differences.{above-is}
 
 module _ (bs : List ℕ) (g n s : ℕ) (p : 2 ^ g < n) (q : n ≤ 2 ^ suc g) where
@@ -51,7 +51,7 @@ module _ (bs : List ℕ) (g n s : ℕ) (p : 2 ^ g < n) (q : n ≤ 2 ^ suc g) whe
       (up : (w .used ≡ length (wayIn (suc g) n i)) × (w .letter .bytes ≡ root digestOf (lettered (suc g) n i leaf from items)))
       (ei : inputs digestOf (lettered (suc g) n i leaf from items) ≡ bytesOf theirs ∷ letters)
       (lf : told (low .difference) ≡ difference logs letters)
-      (j : Joined low (crown bs (2 ^ g) (n - 2 ^ g) mid (digestOf (bytesOf ours))) ours theirs w) where
+      (j : OneFork low (crown bs (2 ^ g) (n - 2 ^ g) mid (digestOf (bytesOf ours))) ours theirs w) where
     crowned : crown bs (2 ^ g) (n - 2 ^ g) mid (digestOf (bytesOf ours)) ≡ fold digestOf (nodeIn bs) (peaksIn (suc (suc g)) n s)
     crowned = ap (λ (x : List ℕ). crown bs (2 ^ g) (n - 2 ^ g) mid (digestOf x)) eo ∙ crown-is
 

@@ -12,12 +12,12 @@ use Rattle.shape.proofs.Counting.{Counts}
 use Rattle.letter.specs.declared.Fields.{Fields}
 use Rattle.letter.specs.Bytes.{indexIn, recordIn}
 use Rattle.letter.specs.Items.{letterTree, workedRoot}
-use Rattle.letter.specs.Order.{takenApart, fieldsOrder, fieldsOutcome}
+use Rattle.letter.specs.Checking.{takenApart, fieldsOrder, fieldsOutcome}
 use Rattle.letter.proofs.Apart.{Apart, apart-number, recordSlice, itemsSlice, record-slice, tree-slices}
 use Rattle.difference.specs.Outcome.{FindOutcome, findRefused}
 use Rattle.letter_finder.specs.Outcome.{ownOrder}
 use Rattle.letter_finder.specs.Steps.{comparing, againstOutcome}
-use Rattle.letter_finder.proofs.Parts.{rootDiffers, last}
+use Rattle.letter_finder.proofs.Stages.{rootDiffers, last}
 
 module _ {size n : ℕ} (letter : List ℕ) {r : Fields} (count : Counts size n) (e : takenApart r ≡ fieldsOutcome size n letter) where
   module _ (a : Apart size n letter e) where

@@ -1,5 +1,5 @@
 -- The laws of the finder.
-pub mod Parts
+pub mod Stages
 pub mod Inputs
 pub mod Forks
 pub mod Turning

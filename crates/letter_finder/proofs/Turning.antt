@@ -21,8 +21,8 @@ use Rattle.nodes.proofs.From.{from-any}
 use Rattle.letter.proofs.Sides.{side-left, side-right, side-past}
 use Rattle.difference.specs.declared.first.Input.{Input}
 use Rattle.letter_finder.specs.declared.walk.Trail.{Trail}
-use Rattle.difference.specs.Steps.{bytesOf, told}
-use Rattle.letter_finder.specs.Steps.{crown, Forkable, Joined, Walkable, Walked}
+use Rattle.difference.specs.Inputs.{bytesOf, told}
+use Rattle.letter_finder.specs.Steps.{crown, Forkable, OneFork, Walkable, Walked}
 use Rattle.letter_finder.proofs.Inputs.{inputs-left, inputs-right, inputs-past}
 use Rattle.letter_finder.proofs.Forks.{sides-are, walked}
 
@@ -94,7 +94,7 @@ as-coded {h = h} {half = half} f S law =
 module _ (bs items leaf : List ℕ) (n i s from : ℕ) (low w : Trail) (ours theirs : Input) where
   -- a fork of half leaves and the rest
   abbrev Forked : ℕ → Type 0
-  Forked half = Joined low (crown bs half (n - half) (s + (2 * half - 1)) (digestOf (bytesOf ours))) ours theirs w
+  Forked half = OneFork low (crown bs half (n - half) (s + (2 * half - 1)) (digestOf (bytesOf ours))) ours theirs w
 
   abbrev LeftTurn : ℕ → ℕ → ℕ → Type 0
   LeftTurn g h half = Walkable h n i s from → half < n → i < half → Walked g half i s leaf from bs items low

@@ -21,7 +21,7 @@ use Rattle.wire.proofs.Rows.{digests-length, digests-each}
 use Rattle.nodes.proofs.Joined.{node-length}
 use Rattle.letter_finder.specs.declared.walk.Trail.{Trail}
 use Rattle.letter_finder.specs.Outcome.{ownRoot}
-use Rattle.difference.specs.Steps.{told}
+use Rattle.difference.specs.Inputs.{told}
 use Rattle.letter_finder.specs.Steps.{lettered, Walkable, Walked}
 use Rattle.letter_finder.proofs.Agreed.{agreed}
 

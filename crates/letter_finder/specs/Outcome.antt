@@ -2,6 +2,7 @@
 use mathlib.Core.List.{List, [], _∷_, _++_}
 use Prim.Native.Nat.{ℕ}
 use lib.ListN.{length}
+use Rattle.wire.specs.Limits.{longestRecord}
 use Rattle.order.specs.Order.{Refusal, _if_, _is-not_, _above_, verdict}
 use Rattle.wire.specs.Slices.{differ}
 use Rattle.shape.specs.Sizes.{leaves}
@@ -10,11 +11,11 @@ use Rattle.shape.specs.Tree.{inputs}
 use Rattle.shape.specs.Difference.{Diff, difference}
 use Rattle.shape.specs.Seen.{seen, broken}
 use Rattle.nodes.specs.Nodes.{nodeIn}
-use Rattle.log.specs.Outcomes.{rootOrder}
+use Rattle.log.specs.Outcome.{rootOrder}
 use Rattle.difference.specs.Outcome.{FindOutcome, findRefused, findDone, roomOrder}
 use Rattle.letter.specs.Bytes.{indexIn, recordIn}
 use Rattle.letter.specs.Items.{foreign, letterTree}
-use Rattle.letter.specs.Order.{from7}
+use Rattle.letter.specs.Checking.{from7}
 
 module _ (digest : List ℕ → List ℕ) where
   -- the root of its own nodes
@@ -30,7 +31,7 @@ module _ (digest : List ℕ → List ℕ) where
   -- children
   unfoldable pub ownOrder : ℕ → List ℕ → List ℕ → ℕ → List Refusal
   ownOrder n bs rec index =
-      3 if length rec above 16384 ∷ 13 if foreign digest bs index rec is-not 0 ∷ 14 if broken digest (nodeIn bs) n index is-not 0 ∷ []
+      3 if length rec above longestRecord ∷ 13 if foreign digest bs index rec is-not 0 ∷ 14 if broken digest (nodeIn bs) n index is-not 0 ∷ []
 
   -- 1, 10, 4, then the checking order from 7 with the root of its own nodes, then 3 and 13 for the log's own record, 14, 6
   unfoldable pub findOrder : ℕ → List ℕ → List ℕ → List ℕ → List ℕ → List ℕ → List Refusal

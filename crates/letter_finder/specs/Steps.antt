@@ -14,7 +14,7 @@ use Rattle.shape.specs.Positions.{peaksIn, fold}
 use Rattle.shape.specs.Seen.{seenIn, seen}
 use Rattle.shape.specs.Difference.{Diff, agree, unequal, difference}
 use Rattle.nodes.specs.Nodes.{nodeIn}
-use Rattle.difference.specs.Steps.{bytesOf, above, told}
+use Rattle.difference.specs.Inputs.{bytesOf, above, told}
 use Rattle.letter.specs.Items.{itemCount, treeOf}
 use Rattle.difference.specs.Outcome.{FindOutcome, findRefused, settled}
 use Rattle.letter_finder.specs.Outcome.{ownRoot, ownOrder}
@@ -43,7 +43,7 @@ pub record Forkable (half mid taken : ℕ) : Type 0 where
   pub used : taken ≤ 64
 
 -- one fork above the walk `low`: t stands on top of it
-pub record Joined (low : Trail) (t : List ℕ) (ours theirs : Input) (w : Trail) : Type 0 where
+pub record OneFork (low : Trail) (t : List ℕ) (ours theirs : Input) (w : Trail) : Type 0 where
   pub used : w .used ≡ low .used + 1
   pub log : w .log .bytes ≡ t
   pub letter : w .letter .bytes ≡ digestOf (bytesOf theirs)

@@ -24,7 +24,7 @@ fn own_digest(apart: u8, leaf: Digest, rec: &[u8]) -> Digest
 
 // 1 where a node on the path, within its peak, isn't the digest of its two children, else 0. Where no input differs, each is, and the path is not
 // looked at again.
-fn path_broken(nodes: &[u8], n: u64, i: u64, apart: u8) -> u8
+fn way_broken(nodes: &[u8], n: u64, i: u64, apart: u8) -> u8
     requires { ⌜ (i < n) × (n ≤ 2 ^ 32) × (apart ≡ 0 → broken digestOf (nodeIn (now nodes)) n i ≡ 0) ⌝ }
     ensures { λ r. ⌜ r ≡ broken digestOf (nodeIn (now (nodes .entry))) n i ⌝ }
 {
@@ -56,7 +56,7 @@ pub(crate) fn against(
     if difference::first::digests_differ(w.log, w.letter) != 0 {
         return difference::find_refused(9);
     }
-    if 16384 < rec.len() {
+    if wire::LONGEST_RECORD < rec.len() {
         return difference::find_refused(3);
     }
     let apart = wire::differ(rec, theirs);
@@ -65,7 +65,7 @@ pub(crate) fn against(
         return difference::find_refused(13);
     }
     let highest = w.difference;
-    if path_broken(nodes, n, i, highest.apart) != 0 {
+    if way_broken(nodes, n, i, highest.apart) != 0 {
         return difference::find_refused(14);
     }
     difference::settle::settle(highest, apart, first, second)

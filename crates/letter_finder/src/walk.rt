@@ -3,8 +3,8 @@ ghost use mathlib.Core.Path.{_≡_};
 ghost use Prim.Native.Nat.{_^_, _≤_};
 ghost use Rattle.digest.specs.Digest.{digestOf};
 ghost use Rattle.nodes.specs.Nodes.{nodeIn};
-ghost use Rattle.difference.specs.Steps.{bytesOf};
-ghost use Rattle.letter_finder.specs.Steps.{crown, Forkable, Joined, Walkable, Walked};
+ghost use Rattle.difference.specs.Inputs.{bytesOf};
+ghost use Rattle.letter_finder.specs.Steps.{crown, Forkable, OneFork, Walkable, Walked};
 use difference::first::Difference;
 use difference::first::Input;
 use digest::Digest;
@@ -52,7 +52,7 @@ fn fork(
     theirs: Input,
 ) -> Trail
     requires { ⌜ Forkable half mid (low .used) ⌝ }
-    ensures { λ w. ⌜ Joined low (crown (now (nodes .entry)) half rest mid (digestOf (bytesOf ours))) ours theirs w ⌝ }
+    ensures { λ w. ⌜ OneFork low (crown (now (nodes .entry)) half rest mid (digestOf (bytesOf ours))) ours theirs w ⌝ }
 {
     let apart = difference::first::inputs_differ(ours, theirs);
     let highest = difference::first::higher(low.difference, apart, ours, theirs);

@@ -16,7 +16,7 @@ use Rattle.shape.specs.Letter.{way, fill}
 use Rattle.shape.specs.Difference.{decided, Diff, agree, unequal, difference, Shown}
 use Rattle.shape.proofs.Difference.{difference-none}
 use Rattle.shape.proofs.Letters.{letter-bind, letter-place}
-use Rattle.log.specs.Outcomes.{rootOrder}
+use Rattle.log.specs.Outcome.{rootOrder}
 use Rattle.letter.specs.Bytes.{letterBytes, indexIn, recordIn, itemsIn}
 use Rattle.letter.specs.Items.{itemCount, foreign, letterTree, workedRoot}
 use Rattle.letter.proofs.Spelling.{items-length, items-32}
@@ -24,7 +24,7 @@ use Rattle.letter.proofs.Fits.{Fits, pass-fits, fits-pass, fits-spelt}
 use Rattle.letter_writer.specs.Outcome.{ourLetter}
 use Rattle.difference.specs.Outcome.{findDone, roomOrder}
 use Rattle.letter_finder.specs.Outcome.{firstDifference, ownOrder, findOrder, findOutcome}
-use Rattle.letter_finder.proofs.Parts.{find-pass, find-checked, find-same}
+use Rattle.letter_finder.proofs.Stages.{find-pass, find-checked, find-same}
 use Rattle.letter_promise.specs.Promise.{logSize, recordAt, ours}
 use Rattle.letter_promise.specs.Promise.{Ends, ends-same, ends-records, ends-pair, EveryAcceptedEnds, EveryOursSame, EverySameOurs}
 use Rattle.letter_promise.proofs.Kept.{Kept, logRoot, ownItems, counts, log-32, own-root, record-short, leads, not-foreign, not-broken, shown}

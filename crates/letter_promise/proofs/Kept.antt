@@ -22,7 +22,7 @@ use Rattle.shape.proofs.Reading.{root-read}
 use Rattle.shape.proofs.Own.{seen-own, broken-own}
 use Rattle.nodes.specs.Nodes.{nodeIn}
 use Rattle.shape.proofs.Counting.{Counts, counts-size}
-use Rattle.log.proofs.Runs.{short-at}
+use Rattle.log.proofs.Appends.{short-at}
 use Rattle.letter.specs.Items.{itemCount, foreign}
 use Rattle.letter_finder.specs.Outcome.{ownRoot}
 use Rattle.letter_promise.specs.Promise.{Log, recordAt}

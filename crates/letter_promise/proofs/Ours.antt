@@ -11,7 +11,7 @@ use Rattle.shape.proofs.Letters.{items-length, items-32, complete}
 use Rattle.shape.specs.Sizes.{leaves}
 use Rattle.letter.specs.Bytes.{letterBytes, sizeIn, indexIn, statedIn, recordIn, itemsIn}
 use Rattle.letter.specs.Items.{itemCount, itemsOf, letterTree, workedRoot}
-use Rattle.letter.specs.Order.{exactLength}
+use Rattle.letter.specs.Checking.{exactLength}
 use Rattle.letter.proofs.ItemsOf.{items-of-log}
 use Rattle.letter.proofs.Spelling.{letter-length, size-read, index-read, stated-read, record-read, items-read-back}
 use Rattle.letter_writer.specs.Outcome.{ourLetter}

@@ -7,10 +7,10 @@ use Rattle.digest.specs.Digest.{digestOf, digest-length}
 use Rattle.shape.specs.Tree.{root}
 use Rattle.shape.specs.Folded.{tree}
 use Rattle.nodes.specs.Nodes.{Begins}
-use Rattle.log.specs.Outcomes.{RootOutcome, rootOutcome}
-use Rattle.log.specs.Runs.{run, empty}
+use Rattle.log.specs.Outcome.{RootOutcome, rootOutcome}
+use Rattle.log.specs.Appends.{run, empty}
 use Rattle.log.proofs.Grown.{begins-hold, begins-long, root-of-log}
-use Rattle.log.proofs.Runs.{run-sound}
+use Rattle.log.proofs.Appends.{run-sound}
 use Rattle.letter_promise.specs.Promise.{Log, logSize, recordAt, ours, EveryLetterAccepted, EveryAcceptedEnds, EveryOursSame, EverySameOurs}
 use Rattle.letter_promise.specs.Promise.{OfEveryLog, LetterAccepted, AcceptedIsOurs, OursIsSame, SameIsOurs}
 use Rattle.letter_promise.proofs.Kept.{Kept}
@@ -26,8 +26,8 @@ kept rs bs g b = record { digest-32 = digest-length; log = g; holds = begins-hol
 of-every-log : (Says : List (List ℕ) → List ℕ → List ℕ → Type 0)
     → ((rs : List (List ℕ)) (bs : List ℕ) → Kept digestOf rs bs → Says rs (root digestOf (tree (map digestOf rs))) bs) → OfEveryLog Says
 of-every-log Says law rs g bs b =
-    let e : rootOutcome digestOf (logSize rs) bs .digest ≡ root digestOf (tree (map digestOf rs)) =
-    ap (λ (o : RootOutcome). o .digest) (root-of-log rs bs (g .some) (g .few) b) in
+    let e : rootOutcome digestOf (logSize rs) bs .root ≡ root digestOf (tree (map digestOf rs)) =
+    ap (λ (o : RootOutcome). o .root) (root-of-log rs bs (g .some) (g .few) b) in
     subst (λ (d : List ℕ). Says rs d bs) (sym e) (law rs bs (kept rs bs g b))
 
 -- the letters that we write are accepted

@@ -9,6 +9,7 @@ use mathlib.Core.Path.{_≡_}
 use mathlib.Core.List.{List, [], _++_, map}
 use Prim.Native.Nat.{ℕ, _^_, _≤_, _<_}
 use lib.ListN.{length, getD, drop}
+use Rattle.wire.specs.Limits.{mostLeaves}
 use Rattle.digest.specs.Digest.{digestOf}
 use Rattle.wire.specs.Numbers.{Bytes}
 use Rattle.wire.specs.Writers.{writeDone}
@@ -16,8 +17,8 @@ use Rattle.shape.specs.Sizes.{sizeOf}
 use Rattle.shape.specs.Tree.{OnePlace}
 use Rattle.shape.specs.Folded.{tree}
 use Rattle.nodes.specs.Nodes.{Begins}
-use Rattle.log.specs.Runs.{Short}
-use Rattle.log.specs.Outcomes.{rootOutcome}
+use Rattle.log.specs.Appends.{Short}
+use Rattle.log.specs.Outcome.{rootOutcome}
 use Rattle.letter.specs.Bytes.{indexIn}
 use Rattle.letter.specs.Items.{letterTree}
 use Rattle.letter_writer.specs.Outcome.{ourLetter, writeOutcome}
@@ -29,7 +30,7 @@ use Rattle.letter_finder.specs.Outcome.{findOutcome}
 -- a log: any list of 1 to 2^32 records, none above 16,384 bytes
 pub record Log (rs : List (List ℕ)) : Type 0 where
   pub some : 1 ≤ length rs
-  pub few : length rs ≤ 2 ^ 32
+  pub few : length rs ≤ mostLeaves
   pub short : Short rs
 
 -- its size, and its record at an index
@@ -100,7 +101,7 @@ module _ (digest : List ℕ → List ℕ) (rs : List (List ℕ)) (root bs : List
 
 -- of every log, with its size, any buffer that begins with its nodes, and its root, which is what the log's own call answers (`root-of-log`)
 abbrev pub OfEveryLog : (List (List ℕ) → List ℕ → List ℕ → Type 0) → Type 0
-OfEveryLog Says = (rs : List (List ℕ)) → Log rs → (bs : List ℕ) → Begins digestOf bs rs → Says rs (rootOutcome digestOf (logSize rs) bs .digest) bs
+OfEveryLog Says = (rs : List (List ℕ)) → Log rs → (bs : List ℕ) → Begins digestOf bs rs → Says rs (rootOutcome digestOf (logSize rs) bs .root) bs
 
 -- `letter-accepted`: our letters are accepted
 abbrev pub LetterAccepted : Type 0

@@ -26,7 +26,7 @@ pub(crate) fn log_of(n: usize, nodes: &mut [u8; 1216]) -> u64 {
 // The root of a log.
 pub(crate) fn root_of(size: u64, nodes: &[u8; 1216]) -> [u8; 32] {
     let r = log::root(size, nodes);
-    let d = r.digest;
+    let d = r.root;
     d.bytes
 }
 

@@ -67,7 +67,10 @@ fn show_whole() {
     letter[7] = 1;
     let d = digest::digest_of(b"");
     let root = d.bytes;
-    show_checked(b"one empty record:", letter_checker::check(1, &root, &letter));
+    show_checked(
+        b"one empty record:",
+        letter_checker::check(1, &root, &letter),
+    );
     end_line();
 }
 

@@ -2,6 +2,7 @@
 use mathlib.Core.List.{List, [], _∷_}
 use Prim.Native.Nat.{ℕ, _*_}
 use lib.ListN.{length}
+use Rattle.wire.specs.Limits.{longestRecord}
 use Rattle.order.specs.Order.{Refusal, _if_, _is_, _is-not_, _above_, _under_, _not-below_, verdict}
 use Rattle.wire.specs.Writers.{WriteOutcome, writeRefused, writeDone}
 use Rattle.shape.specs.Sizes.{countAnswer, leaves}
@@ -19,7 +20,7 @@ module _ (digest : List ℕ → List ℕ) where
   writeOrder size index rec bs out =
       1 if countAnswer size .number is 1
       ∷ 5 if index not-below leaves size
-      ∷ 3 if length rec above 16384
+      ∷ 3 if length rec above longestRecord
       ∷ 4 if length bs under 32 * size
       ∷ 15 if itemCount (leaves size) index above 32
       ∷ 13 if foreign digest bs index rec is-not 0

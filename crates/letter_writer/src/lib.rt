@@ -27,7 +27,7 @@ pub fn write_letter(size: u64, index: u64, rec: &[u8], nodes: &[u8], out: &mut [
         return write_refused(5);
     }
     let stated = rec.len();
-    if 16384 < stated {
+    if wire::LONGEST_RECORD < stated {
         return write_refused(3);
     }
     if (nodes.len() as u64) < 32 * size {

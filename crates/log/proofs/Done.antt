@@ -15,7 +15,7 @@ use Rattle.shape.proofs.Heights.{height-holds}
 use Rattle.shape.proofs.Appends.{new-length}
 use Rattle.nodes.specs.Nodes.{nodeIn, foldFrom}
 use Rattle.log.specs.Steps.{Lefts, leftIn, ups}
-use Rattle.log.specs.Outcomes.{appended, appendDone, rooted, rootDone}
+use Rattle.log.specs.Outcome.{appended, appendDone, rooted, rootDone}
 use Rattle.log.specs.declared.Appended.{Appended}
 use Rattle.log.specs.declared.Rooted.{Rooted}
 use Rattle.wire.proofs.Joined.{joined-length}
@@ -51,22 +51,22 @@ module _ {size n m : ℕ} (rec bs : List ℕ) (k : Counts size n) (e : m ≡ tra
       new-length digestOf (nodeIn bs) (leaves size) (digestOf rec) ∙ ap (λ (x : ℕ). 1 + x) (ap trailingOnes (k .value) ∙ sym e) in
       splice-length (32 * size) (joined xs) bs (omega arith)
 
-  pub append-done : {r : Appended} {last : List ℕ} → r .number ≡ 0 → r .size ≡ size + (1 + m) → r .count ≡ 1 + m
+  pub append-done : {r : Appended} {last : List ℕ} → r .number ≡ 0 → r .size ≡ size + (1 + m) → r .hashes ≡ 1 + m
       → last ≡ splice (32 * size) (joined (newNodes digestOf (nodeIn bs) (leaves size) (digestOf rec))) bs
       → appended r last ≡ appendDone digestOf size rec bs
   unfolding appendDone
   append-done {r} {last} a b c d =
       let s : r .size ≡ sizeOf (suc (leaves size)) = b ∙ sym (grown-size k e) in
-      let t : r .count ≡ hashCount (leaves size) = c ∙ ap (λ (x : ℕ). 1 + x) (e ∙ ap trailingOnes (sym (k .value))) in
-      λ i. record { number = a i; size = s i; count = t i; bytes = d i }
+      let t : r .hashes ≡ hashCount (leaves size) = c ∙ ap (λ (x : ℕ). 1 + x) (e ∙ ap trailingOnes (sym (k .value))) in
+      λ i. record { number = a i; size = s i; hashes = t i; bytes = d i }
 
 -- the peaks folded
-pub root-done : {size n : ℕ} (bs : List ℕ) → Counts size n → 0 < n → {r : Rooted} → r .number ≡ 0 → r .digest .bytes ≡ foldFrom digestOf bs n 0
+pub root-done : {size n : ℕ} (bs : List ℕ) → Counts size n → 0 < n → {r : Rooted} → r .number ≡ 0 → r .root .bytes ≡ foldFrom digestOf bs n 0
     → rooted r ≡ rootDone digestOf size bs
 unfolding rootDone peaks
 root-done {n = n} bs k some {r} a b =
-    let d : r .digest .bytes ≡ fold digestOf (nodeIn bs) (peaks (leaves _)) =
+    let d : r .root .bytes ≡ fold digestOf (nodeIn bs) (peaks (leaves _)) =
     b
     ∙ from-any digestOf bs n 0 (heightOf n) (height-holds n) some (k .most) (omega arith)
     ∙ ap (λ (x : ℕ). fold digestOf (nodeIn bs) (peaksIn (suc (heightOf x)) x 0)) (sym (k .value)) in
-    λ i. record { number = a i; digest = d i }
+    λ i. record { number = a i; root = d i }

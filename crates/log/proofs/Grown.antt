@@ -20,7 +20,7 @@ use Rattle.shape.proofs.Nodes.{nodes-length, nodes-32}
 use Rattle.shape.proofs.Appends.{append-nodes, new-length}
 use Rattle.shape.proofs.Reading.{root-read}
 use Rattle.nodes.specs.Nodes.{nodeIn, nodesOf, Begins}
-use Rattle.log.specs.Outcomes.{appendOrder, appendDone, appendOutcome, rootOrder, rootDone, rootOutcome}
+use Rattle.log.specs.Outcome.{appendOrder, appendDone, appendOutcome, rootOrder, rootDone, rootOutcome}
 use Rattle.wire.proofs.Joined.{joined-length, joined-append}
 use Rattle.nodes.proofs.Joined.{node-joined}
 use Rattle.log.proofs.Climbs.{new-sized}
@@ -86,7 +86,7 @@ module _ (rs : List (List ℕ)) (r bs : List ℕ) (few : length rs < 2 ^ 32) (b 
       ≡ record {
         number = 0;
         size = sizeOf (suc (length rs));
-        count = hashCount (length rs);
+        hashes = hashCount (length rs);
         bytes = nodesOf digestOf (rs ++ (r ∷ [])) ++ drop (32 * sizeOf (suc (length rs))) bs;
       }
   unfolding appendOutcome appendOrder appendDone
@@ -95,11 +95,11 @@ module _ (rs : List (List ℕ)) (r bs : List ℕ) (few : length rs < 2 ^ 32) (b 
       let s : sizeOf (suc (leaves (sizeOf (length rs)))) ≡ sizeOf (suc (length rs)) = ap (λ (x : ℕ). sizeOf (suc x)) (c .value) in
       let t : hashCount (leaves (sizeOf (length rs))) ≡ hashCount (length rs) = ap hashCount (c .value) in
       sym (passes _ _ _ {r = appendDone digestOf (sizeOf (length rs)) r bs} refl (search needs))
-      ∙ (λ i. record { number = 0; size = s i; count = t i; bytes = grown i })
+      ∙ (λ i. record { number = 0; size = s i; hashes = t i; bytes = grown i })
 
 -- the root of a buffer that begins with a log's nodes is that of the folded tree over the records' digests
 pub root-of-log : (rs : List (List ℕ)) (bs : List ℕ) → 0 < length rs → length rs ≤ 2 ^ 32 → Begins digestOf bs rs
-    → rootOutcome digestOf (sizeOf (length rs)) bs ≡ record { number = 0; digest = root digestOf (tree (map digestOf rs)) }
+    → rootOutcome digestOf (sizeOf (length rs)) bs ≡ record { number = 0; root = root digestOf (tree (map digestOf rs)) }
 unfolding rootOutcome rootOrder rootDone
 root-of-log rs bs some few b =
     let c = counts-size (length rs) few in
@@ -108,7 +108,7 @@ root-of-log rs bs some few b =
     sym (passes _ _ _ {r = rootDone digestOf (sizeOf (length rs)) bs} refl (search needs))
     ∙ (λ i. record {
       number = 0;
-      digest =
+      root =
           (ap (λ (x : ℕ). fold digestOf (nodeIn bs) (peaks x)) n
           ∙ root-read digestOf (nodeIn bs) (map digestOf rs) (omega (arith, length-map rs digestOf)) (begins-hold rs bs b)) i;
     })

@@ -5,5 +5,5 @@ pub mod Writing
 pub mod Done
 pub mod Only
 pub mod Grown
-pub mod Runs
+pub mod Appends
 pub mod Local

@@ -17,14 +17,14 @@ use Rattle.shape.proofs.Sizes.{size-mono}
 use Rattle.shape.proofs.Appends.{new-local}
 use Rattle.nodes.specs.Nodes.{nodeIn}
 use Rattle.shape.proofs.Counting.{counts-known}
-use Rattle.log.specs.Outcomes.{AppendOutcome, appendRefused, appendOrder, appendDone, appendOutcome}
+use Rattle.log.specs.Outcome.{AppendOutcome, appendRefused, appendOrder, appendDone, appendOutcome}
 use Rattle.shape.specs.Sizes.{leaves}
 
 -- two appends that answer alike and write the same bytes
 pub record Alike (size : ℕ) (rec bs cs : List ℕ) : Type 0 where
   pub number : appendOutcome digestOf size rec bs .number ≡ appendOutcome digestOf size rec cs .number
   pub grown : appendOutcome digestOf size rec bs .size ≡ appendOutcome digestOf size rec cs .size
-  pub count : appendOutcome digestOf size rec bs .count ≡ appendOutcome digestOf size rec cs .count
+  pub hashes : appendOutcome digestOf size rec bs .hashes ≡ appendOutcome digestOf size rec cs .hashes
   pub new : List ℕ
   pub one : appendOutcome digestOf size rec bs .bytes ≡ splice (32 * size) new bs
   pub other : appendOutcome digestOf size rec cs .bytes ≡ splice (32 * size) new cs
@@ -56,7 +56,7 @@ module _ (size : ℕ) (rec bs cs : List ℕ) (l : length bs ≡ length cs) (same
       record {
         number = one-number;
         grown = ap (λ (x : AppendOutcome). x .size) p ∙ sym (ap (λ (x : AppendOutcome). x .size) q);
-        count = ap (λ (x : AppendOutcome). x .count) p ∙ sym (ap (λ (x : AppendOutcome). x .count) q);
+        hashes = ap (λ (x : AppendOutcome). x .hashes) p ∙ sym (ap (λ (x : AppendOutcome). x .hashes) q);
         new = [];
         one = ap (λ (x : AppendOutcome). x .bytes) p ∙ sym (splice-none (32 * size) bs);
         other = ap (λ (x : AppendOutcome). x .bytes) q ∙ sym (splice-none (32 * size) cs);
@@ -88,7 +88,7 @@ module _ (size : ℕ) (rec bs cs : List ℕ) (l : length bs ≡ length cs) (same
       record {
         number = one-number;
         grown = ap (λ (x : AppendOutcome). x .size) p ∙ sym (ap (λ (x : AppendOutcome). x .size) q);
-        count = ap (λ (x : AppendOutcome). x .count) p ∙ sym (ap (λ (x : AppendOutcome). x .count) q);
+        hashes = ap (λ (x : AppendOutcome). x .hashes) p ∙ sym (ap (λ (x : AppendOutcome). x .hashes) q);
         new = joined (newNodes digestOf (nodeIn bs) n (digestOf rec));
         one = ap (λ (x : AppendOutcome). x .bytes) p;
         other = ap (λ (x : AppendOutcome). x .bytes) q ∙ ap (λ (x : List (List ℕ)). splice (32 * size) (joined x) cs) (sym w);

@@ -31,7 +31,7 @@ module _ {bs : List ℕ} {s m : ℕ} {saved : List ℕ} where
         let p : 2 ^ suc j ≤ 2 ^ m = pow-mono {i = suc j} {j = m} h in
         (omega (arith, pow-pos j, g .power), omega (arith, pow-suc 2 j, g .power))
 
-    pub saves-more : {more d : List ℕ} → m ≤ 32 → more ≡ written (32 * j) d saved → d ≡ part (32 * (s + j - (2 * span - 1))) 32 bs
+    pub saves-more : {more d : List ℕ} → m ≤ 32 → more ≡ written (32 * j) d saved → d ≡ nodeIn bs (s + j - (2 * span - 1))
         → Saves bs s m more (2 * span) (j + 1)
     unfolding nodeIn
     saves-more {more} {d} few e f =
@@ -46,5 +46,5 @@ module _ {bs : List ℕ} {s m : ℕ} {saved : List ℕ} where
               below-more (λ (i : ℕ). leftIn more i ≡ nodeIn bs (s + i - (2 ^ suc i - 1))) j
               (λ i l. ap (part (32 * i) 32) w ∙ part-before (32 * j) d saved (omega (arith, g .room)) (32 * i) 32 (omega arith) ∙ g .each i l)
               (ap (part (32 * j) 32) w ∙ part-splice (32 * j) 32 d saved size (omega (arith, g .room)) ∙ f
-              ∙ ap (λ (x : ℕ). part (32 * (s + j - (x - 1))) 32 bs) q);
+              ∙ ap (λ (x : ℕ). nodeIn bs (s + j - (x - 1))) q);
         }

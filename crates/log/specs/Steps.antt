@@ -11,10 +11,10 @@ use Rattle.log.specs.declared.Rooted.{Rooted}
 
 -- a refused append, and a refused root
 abbrev pub refusedAppend : ℕ → ℕ → Appended
-refusedAppend number size = record { number = number; size = size; count = 0 }
+refusedAppend number size = record { number = number; size = size; hashes = 0 }
 
 abbrev pub refusedRoot : ℕ → Rooted
-refusedRoot number = record { number = number; digest = record { bytes = zeros 32 } }
+refusedRoot number = record { number = number; root = record { bytes = zeros 32 } }
 
 -- digest j of joined ones
 abbrev pub leftIn : List ℕ → ℕ → List ℕ

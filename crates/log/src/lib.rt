@@ -1,7 +1,7 @@
 // A log's nodes in a lent buffer: append and root.
 ghost use mathlib.Core.Path.{_≡_};
 ghost use Rattle.digest.specs.Digest.{digestOf};
-ghost use Rattle.log.specs.Outcomes.{appended, appendOutcome, rooted, rootOutcome};
+ghost use Rattle.log.specs.Outcome.{appended, appendOutcome, rooted, rootOutcome};
 ghost use Rattle.log.specs.Steps.{refusedAppend, refusedRoot};
 
 mod new;
@@ -10,18 +10,16 @@ use digest::Digest;
 use shape::Counted;
 
 // The answer of an append: 01's number, the size and the hash count.
-#[repr(C)]
 pub struct Appended {
     pub number: u32,
     pub size: u64,
-    pub count: u64,
+    pub hashes: u64,
 }
 
 // The answer of a root: 01's number and the digest.
-#[repr(C)]
 pub struct Rooted {
     pub number: u32,
-    pub digest: Digest,
+    pub root: Digest,
 }
 
 // A refused append: the size it was given.
@@ -31,7 +29,7 @@ fn append_refused(number: u32, size: u64) -> Appended
     Appended {
         number,
         size,
-        count: 0,
+        hashes: 0,
     }
 }
 
@@ -43,15 +41,15 @@ pub fn append(size: u64, rec: &[u8], nodes: &mut [u8]) -> Appended
     let Counted::Leaves(n) = c else {
         return append_refused(1, size);
     };
-    if n == 4294967296 {
+    if n == shape::MOST_LEAVES {
         return append_refused(2, size);
     }
-    if 16384 < rec.len() {
+    if wire::LONGEST_RECORD < rec.len() {
         return append_refused(3, size);
     }
     let m = shape::merges(n);
-    let count = 1 + m as u64;
-    let grown = size + count;
+    let hashes = 1 + m as u64;
+    let grown = size + hashes;
     if (nodes.len() as u64) < 32 * grown {
         return append_refused(4, size);
     }
@@ -61,7 +59,7 @@ pub fn append(size: u64, rec: &[u8], nodes: &mut [u8]) -> Appended
     Appended {
         number: 0,
         size: grown,
-        count,
+        hashes,
     }
 }
 
@@ -71,7 +69,7 @@ fn root_refused(number: u32) -> Rooted
 {
     Rooted {
         number,
-        digest: Digest { bytes: [0u8; 32] },
+        root: Digest { bytes: [0u8; 32] },
     }
 }
 
@@ -89,9 +87,6 @@ pub fn root(size: u64, nodes: &[u8]) -> Rooted
     if (nodes.len() as u64) < 32 * size {
         return root_refused(4);
     }
-    let d = nodes::fold_from(nodes, n, 0);
-    Rooted {
-        number: 0,
-        digest: d,
-    }
+    let root = nodes::fold_from(nodes, n, 0);
+    Rooted { number: 0, root }
 }

@@ -22,7 +22,7 @@ pub(crate) fn lefts(nodes: &[u8], size: u64, m: u32) -> Saved
     let mut j: u32 = 0;
     while j < m {
         let p = size + (j as u64) - (2 * span - 1);
-        let d = wire::read_digest(nodes, (32 * p) as usize);
+        let d = nodes::node_at(nodes, p).bytes;
         let at = 32 * (j as usize);
         wire::write_digest(&mut bytes, at, d);
         span = 2 * span;

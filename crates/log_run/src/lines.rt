@@ -16,7 +16,7 @@ pub(crate) fn show_digest(label: &[u8], d: Digest) {
 
 // A label, 01's number, the size and the hash count, and the end of the line.
 pub(crate) fn show_appended(label: &[u8], a: Appended) {
-    let numbers = [a.number as u64, a.size, a.count];
+    let numbers = [a.number as u64, a.size, a.hashes];
     say_numbers(label, &numbers);
     end_line();
 }
@@ -24,6 +24,6 @@ pub(crate) fn show_appended(label: &[u8], a: Appended) {
 // A label, 01's number and the root.
 pub(crate) fn show_rooted(label: &[u8], r: Rooted) {
     say_number(label, r.number as u64);
-    let d = r.digest;
+    let d = r.root;
     show_digest(b" ", d);
 }

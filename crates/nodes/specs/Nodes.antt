@@ -5,6 +5,7 @@ use mathlib.Core.List.{List, map}
 use Prim.Native.Nat.{ℕ, suc, _*_, _^_}
 use lib.Dec.{ltb, leb}
 use lib.ListN.{length, take}
+use Rattle.wire.specs.Limits.{mostLeaves}
 use Rattle.wire.specs.Slices.{part, zeros, joined}
 use Rattle.shape.specs.Sizes.{sizeOf, heightOf}
 use Rattle.shape.specs.Nodes.{nodes}
@@ -17,7 +18,7 @@ nodeIn bs p = part (32 * p) 32 bs
 -- the peaks of n leaves, 1 to 2^32, whose nodes begin at position s, at most 2^34, folded as for the root; zeros for other numbers
 unfoldable pub foldFrom : (List ℕ → List ℕ) → List ℕ → ℕ → ℕ → List ℕ
 foldFrom digest bs n s =
-    elim (ltb 0 n && leb n (2 ^ 32) && leb s (2 ^ 34))
+    elim (ltb 0 n && leb n mostLeaves && leb s (2 ^ 34))
     [ true ↦ fold digest (nodeIn bs) (peaksIn (suc (heightOf n)) n s) | false ↦ zeros 32 ]
 
 -- the nodes of a list of records, in position order

@@ -3,6 +3,7 @@ use mathlib.Core.Bool.{true, false}
 use Prim.Native.Nat.{ℕ, zero, suc, _+_, _-_, _*_, _/_, _%_, _^_}
 use lib.Dec.{leb, ltb, eqb}
 use lib.Count.{ones}
+use Rattle.wire.specs.Limits.{mostLeaves}
 use Rattle.shape.specs.Answers.{Answer, done, refused}
 
 -- the size of n leaves, and the position of leaf n: 2n minus the number of ones in n (`nodes-length`, `leaf-at`)
@@ -11,11 +12,11 @@ sizeOf n = 2 * n - ones n
 
 -- the size of n leaves; 2 for a count above 2^32
 unfoldable pub sizeAnswer : ℕ → Answer
-sizeAnswer n = elim (leb n (2 ^ 32)) [ true ↦ done (sizeOf n) | false ↦ refused 2 ]
+sizeAnswer n = elim (leb n mostLeaves) [ true ↦ done (sizeOf n) | false ↦ refused 2 ]
 
 -- the position of leaf i; 5 for an index not below 2^32
 unfoldable pub positionAnswer : ℕ → Answer
-positionAnswer i = elim (ltb i (2 ^ 32)) [ true ↦ done (sizeOf i) | false ↦ refused 5 ]
+positionAnswer i = elim (ltb i mostLeaves) [ true ↦ done (sizeOf i) | false ↦ refused 5 ]
 
 -- the leaf count up to k whose size is s; 1 where there is none
 unfoldable pub countUpTo : ℕ → ℕ → Answer
@@ -24,7 +25,7 @@ countUpTo (suc k) s = elim (eqb (sizeOf (suc k)) s) [ true ↦ done (suc k) | fa
 
 -- the leaf count up to 2^32 whose size is s; 1 exactly when no leaf count up to 2^32 has this size (`count-none`)
 unfoldable pub countAnswer : ℕ → Answer
-countAnswer s = countUpTo (2 ^ 32) s
+countAnswer s = countUpTo mostLeaves s
 
 -- the leaf count of a size
 abbrev pub leaves : ℕ → ℕ

@@ -53,17 +53,6 @@ pub fn size_of(n: u64) -> Sized
     }
 }
 
-// The size of n leaves as a bare number, which is also where leaf n stands: 0 above 2^32.
-pub fn nodes_of(n: u64) -> u64
-    ensures { λ r. ⌜ r ≡ sizeAnswer n .value ⌝ }
-{
-    if n <= MOST_LEAVES {
-        twice_less_ones(n)
-    } else {
-        0
-    }
-}
-
 // Where leaf i stands. 5 unless i is below 2^32.
 pub fn leaf_position(i: u64) -> Placed
     ensures { λ r. ⌜ placed r ≡ positionAnswer i ⌝ }

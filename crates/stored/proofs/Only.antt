@@ -8,7 +8,7 @@ use Rattle.order.proofs.Laws.{determined}
 use Rattle.stored.specs.declared.Node.{Node}
 use Rattle.stored.specs.declared.Node.the-variants.{Inner, Leaf, NotANode, RecordTooLong}
 use Rattle.stored.specs.declared.Reading.{Reading}
-use Rattle.stored.specs.Read.{Kind, none, inner, leaf, ReadOutcome, valuesOf, told}
+use Rattle.stored.specs.Read.{Kind, none, inner, leaf, ReadOutcome, valuesOf, readOff}
 
 -- the case with this kind, number and length
 caseOf : Kind → ℕ → ℕ → Node
@@ -28,7 +28,7 @@ answer-case NotANode digest = refl
 answer-case RecordTooLong digest = refl
 
 -- the reader's answer
-pub read-only : (outcome : ReadOutcome) {r s : Reading} → told r ≡ outcome → told s ≡ outcome → r ≡ s
+pub read-only : (outcome : ReadOutcome) {r s : Reading} → readOff r ≡ outcome → readOff s ≡ outcome → r ≡ s
 read-only =
-    determined told
+    determined readOff
     (λ r s e. sym (answer-case (r .node) (r .digest)) ∙ ap answer e ∙ answer-case (s .node) (s .digest))

@@ -5,6 +5,7 @@ use Prim.Native.Nat.{ℕ, _+_}
 use denote.Ref.{RefT, now}
 use lib.Dec.{eqb}
 use lib.ListN.{length}
+use Rattle.wire.specs.Limits.{longestRecord}
 use Rattle.wire.specs.Slices.{zeros}
 use Rattle.wire.specs.Lent.{Part, partOf}
 use Rattle.order.specs.Order.{Refusal, _if_, _under_, _above_, _is-not_, verdict}
@@ -45,8 +46,8 @@ valuesOf NotANode digest = readRefused digest 11
 valuesOf RecordTooLong digest = readRefused digest 3
 
 -- the outcome by the answer
-abbrev pub told : Reading → ReadOutcome
-told answer = valuesOf (answer .node) (answer .digest)
+abbrev pub readOff : Reading → ReadOutcome
+readOff answer = valuesOf (answer .node) (answer .digest)
 
 -- refusals that only a node with this flag meets
 abbrev pub forFlag : ℕ → List ℕ → List Refusal → List Refusal
@@ -57,7 +58,7 @@ unfoldable pub readOrder : List ℕ → List Refusal
 readOrder bs =
     (11 if length bs under 33 ∷ 11 if flagIn bs above 1 ∷ [])
     ++ forFlag 0 bs (11 if length bs is-not 33 ∷ [])
-    ++ forFlag 1 bs (11 if length bs under 37 ∷ 3 if statedIn bs above 16384 ∷ 11 if length bs is-not (37 + statedIn bs) ∷ [])
+    ++ forFlag 1 bs (11 if length bs under 37 ∷ 3 if statedIn bs above longestRecord ∷ 11 if length bs is-not (37 + statedIn bs) ∷ [])
 
 -- done: an inner node, or a leaf with its stated record length
 unfoldable pub readDone : List ℕ → ReadOutcome

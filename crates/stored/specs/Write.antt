@@ -2,13 +2,14 @@
 use mathlib.Core.List.{List, [], _∷_}
 use Prim.Native.Nat.{ℕ, _+_}
 use lib.ListN.{length}
+use Rattle.wire.specs.Limits.{longestRecord}
 use Rattle.wire.specs.Writers.{WriteOutcome, writeRefused, writeDone}
 use Rattle.order.specs.Order.{Refusal, _if_, _under_, _above_, verdict}
 use Rattle.stored.specs.Nodes.{innerBytes, leafBytes}
 
 -- stored leaf, written: 3, 6
 abbrev pub leafOrder : List ℕ → List ℕ → List Refusal
-leafOrder rec out = 3 if length rec above 16384 ∷ 6 if length out under (37 + length rec) ∷ []
+leafOrder rec out = 3 if length rec above longestRecord ∷ 6 if length out under (37 + length rec) ∷ []
 
 -- inner: 6
 abbrev pub innerOrder : List ℕ → List Refusal

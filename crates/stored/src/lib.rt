@@ -7,11 +7,8 @@ ghost use Rattle.wire.specs.Slices.{zeros};
 ghost use Rattle.wire.specs.Writers.{wrote};
 ghost use Rattle.wire.specs.Lent.{lent};
 ghost use Rattle.stored.specs.Write.{leafOutcome, innerOutcome};
-ghost use Rattle.stored.specs.Read.{valuesOf, told, readOutcome, recordPart};
+ghost use Rattle.stored.specs.Read.{valuesOf, readOff, readOutcome, recordPart};
 use wire::Written;
-
-// The most bytes of a record.
-const MOST: usize = 16384;
 
 // What reading finds, a kind or a refusal: each refusal has a case of its own.
 pub enum Node {
@@ -35,7 +32,7 @@ pub fn write_leaf(rec: &[u8], out: &mut [u8]) -> Written
     ensures { λ r. ⌜ wrote r (now (out .exit)) ≡ leafOutcome digestOf (now (rec .entry)) (now (out .entry)) ⌝ }
 {
     let n = rec.len();
-    if MOST < n {
+    if wire::LONGEST_RECORD < n {
         return Written {
             number: 3,
             length: 0,
@@ -78,7 +75,7 @@ pub fn write_inner(digest: [u8; 32], out: &mut [u8]) -> Written
 // Reads a node. Refuses by 11 for under 33 bytes, unknown flag, an inner node not of 33, a leaf under 37; then by 3; then by 11 for the
 // exact length.
 pub fn read_node(bytes: &[u8]) -> Reading
-    ensures { λ r. ⌜ told r ≡ readOutcome (now (bytes .entry)) ⌝ }
+    ensures { λ r. ⌜ readOff r ≡ readOutcome (now (bytes .entry)) ⌝ }
 {
     let length = bytes.len();
     if length < 33 {
@@ -101,7 +98,7 @@ pub fn read_node(bytes: &[u8]) -> Reading
         return refusal(Node::NotANode);
     }
     let stated = wire::read4(bytes, 33) as usize;
-    if MOST < stated {
+    if wire::LONGEST_RECORD < stated {
         return refusal(Node::RecordTooLong);
     }
     if length != 37 + stated {
@@ -115,7 +112,7 @@ pub fn read_node(bytes: &[u8]) -> Reading
 
 // The answer for a refusal: no kind, and the digest all zero.
 fn refusal(node: Node) -> Reading
-    ensures { λ r. ⌜ told r ≡ valuesOf node (zeros 32) ⌝ }
+    ensures { λ r. ⌜ readOff r ≡ valuesOf node (zeros 32) ⌝ }
 {
     Reading {
         node,
@@ -125,7 +122,7 @@ fn refusal(node: Node) -> Reading
 
 // 01's number of what the reader answers: 0 for done.
 pub fn number_of(reading: Reading) -> u32
-    ensures { λ r. ⌜ r ≡ told reading .number ⌝ }
+    ensures { λ r. ⌜ r ≡ readOff reading .number ⌝ }
 {
     let node = reading.node;
     match node {

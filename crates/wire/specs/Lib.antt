@@ -1,4 +1,5 @@
 -- The definitions that the contracts cite.
+pub mod Limits
 pub mod Numbers
 pub mod Slices
 pub mod Writers

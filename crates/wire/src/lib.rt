@@ -7,8 +7,10 @@ ghost use lib.ListN.{length, drop, getD};
 ghost use Rattle.wire.specs.Numbers.{be, number};
 ghost use Rattle.wire.specs.Slices.{zeros, part, written, differ};
 
+// The most bytes of a record.
+pub const LONGEST_RECORD: usize = 16384;
+
 // What a writer of one thing answers: 01's number, and the length of what it wrote, 0 for a refusal.
-#[repr(C)]
 pub struct Written {
     pub number: u32,
     pub length: usize,
@@ -30,7 +32,7 @@ pub fn read4(s: &[u8], at: usize) -> u32
 {
     let mut b = [0u8; 4];
     read_run(s, at, &mut b);
-    number_of(&b)
+    value_of(&b)
 }
 
 // Reads the number in the eight bytes from a place on. It is put together from two halves, which the compiler makes one load.
@@ -39,8 +41,8 @@ pub fn read8(s: &[u8], at: usize) -> u64
 {
     let mut b = [0u8; 8];
     read_run(s, at, &mut b);
-    let high = number_of(&b[0..4]);
-    let low = number_of(&b[4..8]);
+    let high = value_of(&b[0..4]);
+    let low = value_of(&b[4..8]);
     high as u64 * 4294967296 + low as u64
 }
 
@@ -91,7 +93,7 @@ fn clear(d: &mut [u8])
 }
 
 // The number that at most four bytes are.
-fn number_of(b: &[u8]) -> u32
+fn value_of(b: &[u8]) -> u32
     requires { ⌜ length (now b) ≤ 4 ⌝ }
     ensures { λ r. ⌜ r ≡ number (now (b .entry)) ⌝ }
 {

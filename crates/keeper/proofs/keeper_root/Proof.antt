@@ -23,7 +23,7 @@ returns-3 : tie.Need-returns-3
 returns-3 c =
     let a = c .before .before .before .before .before .before .before .before .before .before .before .before .args in
     let r = c .before .before .before .before .before .before .before .before .before .root in
-    let full : length (r .result .digest .bytes) ≡ 32 = sym (length-map (r .result .digest .bytes) (λ v. v)) ∙ r .ok .1 .1 .1 .0 .1 .1 .0 .1 .0 .1 in
+    let full : length (r .result .root .bytes) ≡ 32 = sym (length-map (r .result .root .bytes) (λ v. v)) ∙ r .ok .1 .1 .1 .0 .1 .1 .0 .1 .0 .1 in
     root-done (a .size) (a .nodes .now) (a .out .now) (r .result) (r .ensures) _ (omega arith) (omega arith) full (c .before .before .write-digest .ensures)
 
 pub keeper-root-spec : {M : Type 1} → statement M

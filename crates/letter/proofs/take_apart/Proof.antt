@@ -4,7 +4,7 @@ use Prim.Native.Nat.{_+_}
 use Rattle.order.proofs.Laws.{refuses, passes}
 use Rattle.letter.specs.Bytes.{head, sizeIn, indexIn, statedIn}
 use Rattle.letter.specs.Items.{itemCount}
-use Rattle.letter.specs.Order.{FieldsOutcome, itemsFor, fieldsOrder, fieldsOutcome}
+use Rattle.letter.specs.Checking.{FieldsOutcome, itemsFor, fieldsOrder, fieldsOutcome}
 use borrow.Author.Needs.{needs}
 use Rattle.letter.proofs.take_apart.Statement.{statement}
 use Rattle.letter.proofs.take_apart.Tie as tie

@@ -8,7 +8,7 @@ use Rattle.digest.specs.Digest.{digestOf}
 use Rattle.shape.specs.Sizes.{leaves}
 use Rattle.shape.proofs.Counting.{Counts, counts-leaves, counts-none}
 use Rattle.letter.specs.Items.{workedRoot}
-use Rattle.letter.specs.Order.{takenApart, fieldsOrder, fieldsOutcome, from7}
+use Rattle.letter.specs.Checking.{takenApart, fieldsOrder, fieldsOutcome, from7}
 use Rattle.letter.proofs.Apart.{Apart, apart, worked-slices}
 use Rattle.letter_checker.specs.Outcome.{CheckOutcome, checkRefused, checkOrder, checkOutcome}
 use Rattle.letter_checker.proofs.Answers.{fields-refuse, root-refuses, all-pass}

@@ -6,10 +6,10 @@ use native.Mathlib.Omega.{arith}
 use Rattle.digest.specs.Digest.{digestOf}
 use Rattle.order.proofs.Laws.{refuses, passes}
 use Rattle.shape.proofs.Sizes.{size-le}
-use Rattle.log.specs.Outcomes.{rootOrder}
+use Rattle.log.specs.Outcome.{rootOrder}
 use Rattle.shape.proofs.Counting.{Counts, counts-leaves, counts-none}
 use Rattle.letter.proofs.Apart.{Apart, apart}
-use Rattle.letter_finder.proofs.Parts.{find-parts}
+use Rattle.letter_finder.proofs.Stages.{find-parts}
 use Rattle.difference.proofs.Settled.{refused-as}
 use Rattle.letter_finder.proofs.Formed.{fields-pass, formed, refused-fields}
 use borrow.Author.Needs.{needs}

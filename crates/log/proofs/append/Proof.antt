@@ -6,7 +6,7 @@ use lib.ListN.{length, drop, length-drop}
 use lib.Seq.{length-take-le}
 use Rattle.order.proofs.Laws.{refuses, passes}
 use Rattle.shape.specs.Sizes.{sizeOf, leaves}
-use Rattle.log.specs.Outcomes.{appended, appendOrder, appendOutcome}
+use Rattle.log.specs.Outcome.{appended, appendOrder, appendOutcome}
 use Rattle.log.specs.declared.Appended.{Appended}
 use Rattle.shape.proofs.Counting.{Counts, counts-leaves, counts-none, grown-size, merges-few, lefts-room}
 use Rattle.log.proofs.Done.{new-bytes, new-fits, append-done}

@@ -3,7 +3,7 @@ use mathlib.Core.Path.{refl, ap}
 use native.Mathlib.Omega.{arith}
 use Rattle.order.proofs.Laws.{refuses, passes}
 use Rattle.shape.proofs.Sizes.{size-le}
-use Rattle.log.specs.Outcomes.{rooted, rootOrder, rootOutcome}
+use Rattle.log.specs.Outcome.{rooted, rootOrder, rootOutcome}
 use Rattle.shape.proofs.Counting.{Counts, counts-leaves, counts-none}
 use Rattle.log.proofs.Done.{root-done}
 use borrow.Author.Needs.{needs}

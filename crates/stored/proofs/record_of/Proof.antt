@@ -8,7 +8,7 @@ use lib.ListN.{length}
 use Rattle.wire.specs.Slices.{part}
 use Rattle.wire.proofs.Lent.{slice-part, lent-part}
 use Rattle.stored.specs.declared.Node.{Node}
-use Rattle.stored.specs.Read.{ReadOutcome, leafRead, valuesOf, told, readOutcome, recordPart}
+use Rattle.stored.specs.Read.{ReadOutcome, leafRead, valuesOf, readOff, readOutcome, recordPart}
 use Rattle.stored.proofs.Ends.{of-leaf}
 use Rattle.stored.proofs.Else.{no-leaf}
 use borrow.Author.Needs.{needs}
@@ -44,7 +44,7 @@ unfolding part
 returns c =
     let r = c .before .before .read-node in
     let z = no-leaf (r .result .node) (r .result .digest) (c .before .match .keys2) in
-    part-is (c .before .before .before .before .args .bytes) (told (r .result)) _ _ (sym (r .ensures)) (rw (z .0, z .1)) (omega (arith, z .0))
+    part-is (c .before .before .before .before .args .bytes) (readOff (r .result)) _ _ (sym (r .ensures)) (rw (z .0, z .1)) (omega (arith, z .0))
 
 add-result : tie.Need-add-result
 add-result c = let e = length-known c in search needs

@@ -23,8 +23,8 @@ returns c =
     let e = k .read-run .ensures in
     let a = k .before .before .before .args in
     let n = ap length e ∙ part-length (a .at) 8 (a .s .now) in
-    let high = c .before .before .before .number-of .ensures in
-    let low = c .number-of2 .ensures in
+    let high = c .before .before .before .value-of .ensures in
+    let low = c .value-of2 .ensures in
     omega (arith, ap number e, halves (k .read-run .last .1 .1 .0) n)
 
 pub read8-spec : {M : Type 1} → statement M

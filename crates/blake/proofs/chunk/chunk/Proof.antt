@@ -40,7 +40,7 @@ returns c =
     chains-all (k .key) (k .flag) (k .root) (k .n) (k .bytes .now) (c .before .before .before .loop-test .left)
     (c .compress2 .ensures
     ∙ ap (λ (m : List ℕ). compressed (at-loop .cv) m (k .n) (length (k .bytes .now) - at-loop .at) (k .flag + at-loop .start + 2 + k .root))
-    (c .before .load-short .ensures
+    (c .before .load2 .ensures
     ∙ ap (wordsOf 16) (take-all (length (k .bytes .now) - at-loop .at) rest (omega (arith, length-drop (at-loop .at) (k .bytes .now))))))
     (at-loop .inv)
 

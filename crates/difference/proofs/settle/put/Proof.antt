@@ -9,17 +9,19 @@ use Rattle.difference.proofs.settle.put.Tie as tie
 -- each half has 32 bytes
 halves : (s : tie.Start) → (length (s .args .x .left .bytes) ≡ 32) × (length (s .args .x .right .bytes) ≡ 32)
 halves s =
-    let x = s .args .x in
-    (sym (length-map (x .left .bytes) (λ v. v)) ∙ s .good .1 .0 .1 .1 .0 .1 .1 .0 .1 .0 .1,
-    sym (length-map (x .right .bytes) (λ v. v)) ∙ s .good .1 .0 .1 .1 .1 .0 .1 .1 .0 .1 .0 .1)
+    let x = s .args .x in (
+      sym (length-map (x .left .bytes) (λ v. v)) ∙ s .good .1 .0 .1 .1 .0 .1 .1 .0 .1 .0 .1,
+      sym (length-map (x .right .bytes) (λ v. v)) ∙ s .good .1 .0 .1 .1 .1 .0 .1 .1 .0 .1 .0 .1,
+    )
 
 returns : tie.Need-returns
 returns c =
     let s = c .before .before in
     let x = s .args .x in
-    let h = halves s in
-    (input-64 (s .args .d .now) (x .left .bytes) (x .right .bytes) (h .0) (h .1),
-    put-none (s .args .d .now) (x .left .bytes) (x .right .bytes) (h .0) (h .1) (c .if1 .taken))
+    let h = halves s in (
+      input-64 (s .args .d .now) (x .left .bytes) (x .right .bytes) (h .0) (h .1),
+      put-none (s .args .d .now) (x .left .bytes) (x .right .bytes) (h .0) (h .1) (c .if1 .taken),
+    )
 
 returns-2 : tie.Need-returns-2
 returns-2 c =
@@ -28,9 +30,10 @@ returns-2 c =
     let test = first .before .before .before .before in
     let s = test .before .before in
     let x = s .args .x in
-    let h = halves s in
-    (input-64 (s .args .d .now) (x .left .bytes) (x .right .bytes) (h .0) (h .1),
-    put-two (s .args .d .now) (x .left .bytes) (x .right .bytes) (h .0) (h .1) _ _ (test .if1 .left) (first .write-digest .ensures) (last .write-digest2 .ensures))
+    let h = halves s in (
+      input-64 (s .args .d .now) (x .left .bytes) (x .right .bytes) (h .0) (h .1),
+      put-two (s .args .d .now) (x .left .bytes) (x .right .bytes) (h .0) (h .1) _ _ (test .if1 .left) (first .write-digest .ensures) (last .write-digest2 .ensures),
+    )
 
 pub put-spec : {M : Type 1} → statement M
 put-spec =

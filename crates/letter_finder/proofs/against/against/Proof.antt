@@ -77,8 +77,8 @@ returns-3 c =
     let f = placed (c .before .before) in
     passes _ _ _ (refuses 13 _ _ _ (refused-as _ _ 13 (c .find-refused3 .ensures)) (search needs)) (search needs)
 
-path-broken-requires : tie.Need-path-broken-requires
-path-broken-requires c κs =
+way-broken-requires : tie.Need-way-broken-requires
+way-broken-requires c κs =
     let test = c .before .before .before .before .before .before in
     let walked = test .before in
     let p = start walked .pre in
@@ -90,7 +90,7 @@ unfolding againstOutcome ownOrder
 returns-4 c =
     let e = roots (c .before .before .before .before .before .before .before .before .before .before) in
     let f = placed (c .before .before .before .before .before) in
-    let b = c .before .before .path-broken .ensures in
+    let b = c .before .before .way-broken .ensures in
     passes _ _ _ (refuses 14 _ _ _ (refused-as _ _ 14 (c .find-refused4 .ensures)) (search needs)) (search needs)
 
 returns-5 : tie.Need-returns-5
@@ -103,7 +103,7 @@ returns-5 c =
     let a = start walked .args in
     let e = roots walked in
     let f = placed (looked .before .before .before) in
-    let b = looked .path-broken .ensures in
+    let b = looked .way-broken .ensures in
     let o =
     settling .settle .ensures
     ∙ ap₂ (λ (d : Diff) (m : ℕ). settled d m (a .first .now) (a .second .now)) (known walked .first) (compared .differ .ensures) in
@@ -126,7 +126,7 @@ against-spec =
     (λ c κs. search needs)
     (λ c κs. search needs)
     returns-3
-    path-broken-requires
+    way-broken-requires
     (λ c κs. search needs)
     returns-4
     (λ c κs. search needs)

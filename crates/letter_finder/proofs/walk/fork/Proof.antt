@@ -3,7 +3,7 @@ use mathlib.Core.Path.{refl, ap, sym, _∙_}
 use Prim.Native.Nat.{ℕ}
 use Rattle.digest.specs.Digest.{digestOf}
 use Rattle.wire.proofs.Differences.{same-of-differ}
-use Rattle.difference.specs.Steps.{bytesOf, above, told}
+use Rattle.difference.specs.Inputs.{bytesOf, above, told}
 use borrow.Author.Needs.{needs}
 use Rattle.letter_finder.proofs.walk.fork.Statement.{statement}
 use Rattle.letter_finder.proofs.walk.fork.Tie as tie

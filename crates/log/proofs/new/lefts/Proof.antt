@@ -25,20 +25,17 @@ sub-p c = let f = span-fits (c .before .loop .inv) (c .loop-test .taken) (c .bef
 sub-p-2 : tie.Need-sub-p-2 Inv-loop μ-loop
 sub-p-2 c = let f = span-fits (c .before .loop .inv) (c .loop-test .taken) (c .before .before .before .pre .2) in omega arith
 
-mul-read-digest : tie.Need-mul-read-digest Inv-loop μ-loop
-mul-read-digest c = let f = span-fits (c .before .loop .inv) (c .loop-test .taken) (c .before .before .before .pre .2) in omega arith
-
 mul-span : tie.Need-mul-span Inv-loop μ-loop
 mul-span c =
-    let start = c .before .before .before .before .before .before .before in
-    let f = span-fits (c .before .before .before .before .before .loop .inv) (c .before .before .before .before .loop-test .taken) (start .pre .2) in
+    let start = c .before .before .before .before .before .before .before .before in
+    let f = span-fits (c .before .before .before .before .before .before .loop .inv) (c .before .before .before .before .before .loop-test .taken) (start .pre .2) in
     omega (arith, start .pre .1)
 
 loop-again : tie.Need-loop-again Inv-loop μ-loop
 loop-again c =
-    let start = c .before .before .before .before .before .before .before in
-    saves-more (c .before .before .before .before .before .loop .inv) (c .before .before .before .before .loop-test .taken) (start .pre .0)
-    (c .before .write-digest .ensures) (c .before .before .before .read-digest .ensures)
+    let start = c .before .before .before .before .before .before .before .before in
+    saves-more (c .before .before .before .before .before .before .loop .inv) (c .before .before .before .before .before .loop-test .taken) (start .pre .0)
+    (c .before .write-digest .ensures) (c .before .before .before .before .node-at .ensures)
 
 returns : tie.Need-returns Inv-loop μ-loop
 returns c = record { each = λ j h. c .before .loop .inv .each j (omega arith) }
@@ -55,7 +52,6 @@ lefts-spec =
     mul-p
     sub-p
     sub-p-2
-    mul-read-digest
     (λ c κs. search needs)
     (λ c. search needs)
     (λ c. search needs)

@@ -1,0 +1,54 @@
+-- The order that checks a letter, from 7 on: the checker and the finder share it.
+use mathlib.Core.List.{List, [], _∷_, _++_}
+use Prim.Native.Nat.{ℕ, _+_, _*_}
+use lib.ListN.{length}
+use Rattle.wire.specs.Limits.{longestRecord}
+use Rattle.order.specs.Order.{Refusal, _if_, _under_, _above_, _not-below_, _is-not_, verdict}
+use Rattle.wire.specs.Slices.{differ}
+use Rattle.letter.specs.Bytes.{head, sizeIn, indexIn, statedIn}
+use Rattle.letter.specs.Items.{itemCount, workedRoot}
+use Rattle.letter.specs.declared.Fields.{Fields}
+
+-- the number of items that a letter has for a log of n leaves
+abbrev pub itemsFor : ℕ → List ℕ → ℕ
+itemsFor n letter = itemCount n (indexIn letter)
+
+-- the exact length of a letter for a log of n leaves
+abbrev pub exactLength : ℕ → List ℕ → ℕ
+exactLength n letter = head + statedIn letter + 32 * itemsFor n letter
+
+-- letter under 20 bytes; letter names another size; index not below the leaf count; more than 32 items needed; stated record length above
+-- 16,384; not of its exact length
+unfoldable pub fieldsOrder : ℕ → ℕ → List ℕ → List Refusal
+fieldsOrder size n letter =
+    7 if length letter under head
+    ∷ 8 if sizeIn letter is-not size
+    ∷ 5 if indexIn letter not-below n
+    ∷ 15 if itemsFor n letter above 32
+    ∷ 3 if statedIn letter above longestRecord
+    ∷ 7 if length letter is-not exactLength n letter
+    ∷ []
+
+-- the checking order from 7: the fields, then 9, root worked out from the letter differs
+unfoldable pub from7 : (List ℕ → List ℕ) → ℕ → ℕ → List ℕ → List ℕ → List Refusal
+from7 digest size n root letter = fieldsOrder size n letter ++ (9 if differ root (workedRoot digest n letter) is-not 0 ∷ [])
+
+-- what taking a letter apart returns: the number, the index, and where the record begins and ends
+pub record FieldsOutcome : Type 0 where
+  pub number : ℕ
+  pub index : ℕ
+  pub start : ℕ
+  pub end : ℕ
+
+-- the outcome by the answer
+abbrev pub takenApart : Fields → FieldsOutcome
+takenApart r = record { number = r .number; index = r .index; start = r .start; end = r .end }
+
+-- a refusal has its number alone
+abbrev pub fieldsRefused : ℕ → FieldsOutcome
+fieldsRefused number = record { number = number; index = 0; start = 0; end = 0 }
+
+unfoldable pub fieldsOutcome : ℕ → ℕ → List ℕ → FieldsOutcome
+fieldsOutcome size n letter =
+    verdict fieldsRefused (fieldsOrder size n letter)
+    (record { number = 0; index = indexIn letter; start = head; end = head + statedIn letter })
