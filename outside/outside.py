@@ -14,24 +14,20 @@ nobody has such strings, so of its answers only "same" and the refusals are met 
 Exit status: 0 where all agree; 1 at the first difference, which is printed; 2 where nothing could be run.
 """
 import argparse
-import struct
-import subprocess
 import sys
 from collections import Counter, namedtuple
 from pathlib import Path
 
-TOP = Path(__file__).resolve().parent.parent
-sys.path.insert(0, str(TOP / "second"))
+sys.path.insert(0, str(Path(__file__).resolve().parent.parent / "second"))
 
+from bridge import Answer, Bridge, build, differences, lines_of, made_wrong, refused, wrong_answers  # noqa: E402
 from inputs import cases  # noqa: E402
-from inputs.world import Case, digest, flipped, u32, u64  # noqa: E402
+from inputs.vectors import asked_in_vectors  # noqa: E402
+from inputs.world import Case, digest, u32, u64  # noqa: E402
 from rules import finder, letters, log, shape, stored  # noqa: E402
 from rules.log import NODE  # noqa: E402
 
 ROUNDS = 8000
-
-# An answer: 01's number, the parts at return, and whether a byte beside them was changed.
-Answer = namedtuple("Answer", "number parts strayed")
 
 
 # ---- what the second program says of a call: the number, and the parts where it is done
@@ -122,85 +118,15 @@ CALLS = {
     "store_inner": Call(say_store_inner, (0, 12, 6)),
     "read_node": Call(say_read_node, (0, 11, 3, 6)),
 }
-# What the parts are called in a report.
-NAMES = {name: call.say.__code__.co_varnames[1:call.say.__code__.co_argcount] for name, call in CALLS.items()}
 
 
 def said(case):
     """The answer of the second program. A refusal leaves every part as it was."""
     number, parts = CALLS[case.call].say(case.numbers, *case.parts)
-    return Answer(number, list(case.parts) if number != 0 else parts, False)
-
-
-# ---- the library's answer
-
-
-class Bridge:
-    """The bridge's program, kept running."""
-
-    def __init__(self, program):
-        self.running = subprocess.Popen([program], stdin=subprocess.PIPE, stdout=subprocess.PIPE)
-
-    def ask(self, at, case):
-        """The answer of the library, or None where the program has ended. The case's number decides on the placing of the parts."""
-        numbers = [*case.numbers, 0, 0][:2]
-        head = struct.pack("<16sBB2Q", case.call.encode(), at % 4, len(case.parts), *numbers)
-        lengths = struct.pack(f"<{len(case.parts)}I", *map(len, case.parts))
-        try:
-            self.running.stdin.write(head + lengths + b"".join(case.parts))
-            self.running.stdin.flush()
-        except BrokenPipeError:
-            return None
-        start, *parts = [self.running.stdout.read(length) for length in (5, *map(len, case.parts))]
-        if len(start) < 5:
-            return None
-        strayed, number = struct.unpack("<BI", start)
-        return Answer(number, parts, strayed != 0)
-
-    def close(self):
-        """End the program; its exit status."""
-        try:
-            self.running.stdin.close()
-        except BrokenPipeError:
-            pass
-        return self.running.wait()
+    return Answer(number, parts, False) if number == 0 else refused(number, case)
 
 
 # ---- comparing
-
-
-def short(data):
-    """Bytes in hexadecimal, the middle of many left out."""
-    digits = data.hex() or "none"
-    return digits if len(digits) <= 160 else f"{digits[:120]}..{digits[-20:]} ({len(data)} bytes)"
-
-
-def differences(case, ours, theirs):
-    """What differs between the library's answer and the second program's, a line each."""
-    if ours is None:
-        return ["the library ended the bridge: it read or wrote what it was not lent, or wrote to what it only reads"]
-    lines = [] if ours.number == theirs.number else [f"number: {ours.number} from C, {theirs.number} from the second program"]
-    for name, got, wanted in zip(NAMES.get(case.call, ("part",)), ours.parts, theirs.parts):
-        if got != wanted:
-            first = next((i for i, pair in enumerate(zip(got, wanted)) if pair[0] != pair[1]), min(len(got), len(wanted)))
-            lines.append(f"{name}, from byte {first}: {short(got[first:])} from C, {short(wanted[first:])} from the second program")
-    return lines + (["a byte beside what was lent was changed"] if ours.strayed else [])
-
-
-def lines_of(case, whole):
-    """The inputs of a case."""
-    yield f"  numbers: {' '.join(map(str, case.numbers)) or 'none'}"
-    for name, part in zip(NAMES.get(case.call, ("part",)), case.parts):
-        yield f"  {name}, {len(part)} bytes: {part.hex() if whole else short(part)}"
-
-
-def made_wrong(answer, place):
-    """An answer with one bit changed: of the number, or of a part that has bytes."""
-    if place == 0:
-        return answer._replace(number=answer.number ^ 1)
-    parts = list(answer.parts)
-    parts[place - 1] = flipped(parts[place - 1], len(parts[place - 1]) // 2)
-    return answer._replace(parts=parts)
 
 
 def reported(given, at, case, lines):
@@ -210,11 +136,6 @@ def reported(given, at, case, lines):
         print("\n".join([*(f"  {line}" for line in lines), "what was given:", *lines_of(case, given.only is not None)]))
         print(f"once more, with all bytes: outside/outside.py --seed {given.seed} --rounds {given.rounds} --only {at}")
     return bool(lines)
-
-
-def wrong_answers(right):
-    """The answer made wrong at each place in turn."""
-    return [made_wrong(right, place) for place in [0] + [1 + i for i, part in enumerate(right.parts) if part]]
 
 
 def self_test(bridge, given):
@@ -267,13 +188,6 @@ def finish(counts, given):
     unmet = [f"keeper_{name} {number}" for name, call in CALLS.items() for number in call.order if not counts[name, number]]
     print(f"outside: {sum(counts.values())} answers of seed {given.seed} are the same" + "".join(f"\n  never met: {line}" for line in unmet))
     return not unmet
-
-
-def build():
-    """The bridge's program, built where it has to be."""
-    if subprocess.run([TOP / "hosts" / "build.sh"], stdout=sys.stderr, check=False).returncode != 0:
-        sys.exit(2)
-    return TOP / "target" / "hosts" / "bridge"
 
 
 def main():
