@@ -2,8 +2,9 @@
 """The calls for C from outside: the library and the second program answer the same thousands of true, random and damaged inputs.
 
 A C program, outside/bridge.c, makes each call on buffers that lie against forbidden pages and hands back the number and every byte that it lent,
-result variables too. What the second program says is compared with all of it. The finder's "records" and "pair" are two strings of one digest:
-nobody has such strings, so of its answers only "same" and the refusals are met here.
+result variables too. What the second program says is compared with all of it. Each refusal alone, at its edge, stands in vectors/, which
+outside/vectors.py holds the library to; here is what such a list cannot hold, and no case that it has. The finder's "records" and "pair" are two
+strings of one digest: nobody has such strings, so of its answers only "same" and the refusals are met here.
 
     outside.py                        build the bridge and compare
     outside.py --seed N --rounds N    other random inputs, or more of them
@@ -21,9 +22,9 @@ from pathlib import Path
 sys.path.insert(0, str(Path(__file__).resolve().parent.parent / "second"))
 
 from bridge import Answer, Bridge, build, differences, lines_of, made_wrong, refused, wrong_answers  # noqa: E402
+from calls import Case, u32, u64  # noqa: E402
 from inputs import cases  # noqa: E402
-from inputs.vectors import asked_in_vectors  # noqa: E402
-from inputs.world import Case, digest, u32, u64  # noqa: E402
+from inputs.world import digest  # noqa: E402
 from rules import finder, letters, log, shape, stored  # noqa: E402
 from rules.log import NODE  # noqa: E402
 
@@ -140,15 +141,17 @@ def reported(given, at, case, lines):
 
 def self_test(bridge, given):
     """For each call one case of each number: every part of the second program's answer made wrong in turn, and each wrong answer noticed."""
-    noticed, seen = [], set()
-    for at, case in enumerate(cases(given.seed, 0)):
+    noticed, unseen = [], {(name, number) for name, call in CALLS.items() for number in call.order}
+    for at, case in enumerate(cases(given.seed, given.rounds)):
         right = said(case)
-        if (case.call, right.number) not in seen:
-            seen.add((case.call, right.number))
+        if (case.call, right.number) in unseen:
+            unseen.remove((case.call, right.number))
             ours = bridge.ask(at, case)
             if reported(given, at, case, differences(case, ours, right)):
                 return False
             noticed += [bool(differences(case, ours, wrong)) for wrong in wrong_answers(right)]
+        if not unseen:
+            break
     for at in range(2):
         case = Case("stray", (), [b"lent"])
         noticed.append(bool(differences(case, bridge.ask(at, case), Answer(0, [b"lent"], False))))

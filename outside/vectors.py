@@ -15,7 +15,7 @@ from collections import Counter
 
 from bridge import Bridge, build, differences, lines_of
 from calls import PARTS, Case, digest_case, flipped
-from portable import ASKED, NODE, UNASKED, vectors
+from vector_cases import ASKED, NODE, UNASKED, vectors
 
 
 def digest_by(bridge, data):

@@ -1,10 +1,7 @@
-"""The fixed cases: numbers near the start, every byte of some letters and nodes damaged, each room one byte short; then two refusals at once."""
+"""The fixed cases: numbers beside the edges, every byte of some letters and nodes damaged, logs of every length; then every two refusals at once."""
 import itertools
 
-from expected.given import counting_bytes
-from expected.panel import longest_letter
-from inputs.world import EDGES, LENGTHS, Case, flipped, u64
-from inputs.world import append_case, check_case, find_case, inner_case, leaf_case, read_case, root_case, write_case
+from calls import append_case, check_case, digest_case, find_case, flipped, inner_case, number_case, read_case, root_case, write_case
 from rules import letters, stored
 from rules.finder import PAIR
 from rules.letters import LETTER_HEAD
@@ -22,21 +19,20 @@ def damaged(data):
 
 
 def fixed_numbers():
-    """Sizes, positions and counts, near the start and at the edges."""
-    for number in (*range(130), *EDGES):
+    """Sizes, positions and counts, behind those that vectors/ has and beside its edges."""
+    for number in (*range(65, 130), 2**31 + 1, 2**32 - 3, 2**32 + 2, 2**33 - 34, 2**33 + 1, 2**63 + 1, 2**64 - 2):
         for call in ("size", "leaf_position", "leaf_count"):
-            yield Case(call, (number,), [u64(0x1111111111111111)])
+            yield number_case(call, number)
 
 
-def fixed_digests():
-    """The lengths at which the tree changes, and a short output."""
-    for length in (*LENGTHS, 3072, 3073, 4095, 4097, 8192, 12289, 16384, 16385, 31744):
-        for room in (NODE - 1, NODE, NODE + 1):
-            yield Case("digest", (), [counting_bytes(length), b"\7" * room])
+def fixed_digests(world):
+    """An output that is not of 32 bytes, whatever is hashed."""
+    for record, room in itertools.product((b"", world.records[5], world.records[77]), (0, NODE - 1, NODE + 1)):
+        yield digest_case(record, room)
 
 
 def fixed_letters(world):
-    """Letters with every byte damaged, and what the checker and the finder are given beside them too short by one byte."""
+    """Letters with every byte damaged, and what the checker, the finder and the writer are given beside them damaged."""
     for leaves, index in ((1, 0), (2, 1), (7, 2), (7, 6), (11, 9), (80, 77)):
         size, nodes, top, record = nodes_of(leaves), world.nodes(leaves), world.root(leaves), world.records[index]
         letter = world.letter(leaves, index)
@@ -44,55 +40,39 @@ def fixed_letters(world):
         for other in (letter, *shown):
             yield check_case(size, top, other)
             yield find_case(size, nodes, record, other)
-        for other in (top[:-1], top + b"\0", b"", flipped(top, 0), flipped(top, 31)):
-            yield check_case(size, other, letter)
+        for place in range(NODE):
+            yield check_case(size, flipped(top, place), letter)
         for place in range(0, min(len(nodes), 800), 7):
             yield find_case(size, flipped(nodes, place), record, letter)
             yield write_case(size, index, record, flipped(nodes, place), len(letter))
-        yield find_case(size, nodes[:-1], record, letter)
-        yield find_case(size, nodes, record + b"\0", letter)
-        yield find_case(size, nodes, world.longer, letter)
-        for rooms in ((PAIR - 1, PAIR), (PAIR, PAIR - 1), (0, PAIR), (PAIR + 1, PAIR + 9)):
-            yield find_case(size, nodes, record, letter, rooms)
-        for room in (0, LETTER_HEAD, len(letter) - 1, len(letter), len(letter) + 1):
+        for room in range(LETTER_HEAD, len(letter), max(NODE, len(letter) // 8)):
             yield write_case(size, index, record, nodes, room)
 
 
-def fixed_longest():
-    """The longest letter that is accepted, of 16,384 bytes and 32 items, whole and damaged."""
-    size, top, letter = longest_letter()
-    for shown in (letter, letter[:-1], letter + b"\0", flipped(letter, 16), flipped(letter, 19), flipped(letter, len(letter) - 1)):
-        yield check_case(size, top, shown)
-
-
 def fixed_logs(world):
-    """Appends and roots of every log up to forty records, with the room that they want and one byte less."""
+    """Appends and roots of every log up to forty records, with the room that they want, one byte less and some more."""
     for leaves in range(41):
         size, record = nodes_of(leaves), world.records[leaves]
         room = NODE * nodes_of(leaves + 1)
         for spare in (-1, 0, 1, 40):
             yield append_case(size, record, world.nodes(leaves).ljust(room + spare, b"\x3c")[:room + spare])
-            yield root_case(size, world.nodes(leaves).ljust(NODE * size + spare, b"\x3c")[:max(NODE * size + spare, 0)], NODE)
-    for record in (world.records[77], world.longer):
-        yield append_case(0, record, bytes(NODE))
+            if leaves > 0:
+                yield root_case(size, world.nodes(leaves).ljust(NODE * size + spare, b"\x3c")[:NODE * size + spare], NODE)
 
 
 def fixed_nodes(world):
-    """Stored nodes with every byte damaged, and one with the longest record."""
+    """Stored nodes with every byte damaged, and the digest into 32 bytes, one less and one more."""
     leaf, inner = stored.stored_leaf(world.records[1]), stored.stored_inner(world.root(1))
-    longest = stored.stored_leaf(world.records[77])
-    for data in (leaf, inner, longest, longest + b"\0", longest[:-1], *damaged(leaf), *damaged(inner)):
+    for data in (leaf, inner, *damaged(leaf), *damaged(inner)):
         for room in (NODE - 1, NODE, NODE + 1):
             yield read_case(data, room)
 
 
 def with_changes(true, changes):
-    """The true inputs; then with each change; then with each two of them, the later one over the earlier."""
-    yield dict(true)
-    for change in changes:
-        yield {**true, **change}
-    for one, other in itertools.permutations(changes, 2):
-        yield {**true, **one, **other}
+    """The true inputs with every two changes of different parts. One change alone is a case of vectors/."""
+    for one, other in itertools.combinations(changes, 2):
+        if not set(one) & set(other):
+            yield {**true, **one, **other}
 
 
 def letter_from(named, index, stated, body, length):
@@ -142,9 +122,7 @@ def log_orders(world):
 def node_orders(world):
     """The orders of stored nodes, written and read."""
     leaf = stored.stored_leaf(world.records[5])
-    for record, short in itertools.product((world.records[5], world.records[77], world.longer), (0, 1)):
-        yield leaf_case(record, 37 + len(record) - short)
-    for length, room in itertools.product((0, 31, 32, 33), (0, 32, 33, 34)):
+    for length, room in itertools.product((0, 31, 33), (0, 32, 33, 34)):
         yield inner_case(bytes(range(length)), room)
     for flag, length, stated, room in itertools.product((0, 1, 2, 3, 128, 255), (0, 1, 32, 33, 34, 36, 37, 38, len(leaf)),
                                                         (0, 1, len(leaf) - 37, LONGEST_RECORD + 1, 2**32 - 1), (0, NODE - 1, NODE)):

@@ -59,10 +59,16 @@ def case(call, name, given, number, **values):
     return {"name": name, "call": call, "given": {name: form(value) for name, value in given.items()}, "answer": {"number": number, **answer}}
 
 
+def only_once(what, values):
+    """An error where one of the values stands twice."""
+    twice = sorted({value for value in values if values.count(value) > 1})
+    if twice:
+        raise ValueError(f"two cases have one {what}: {twice}")
+
+
 def file_text(about, section, cases):
     """The text of a file: what it is about, where the rules have it, and a line for each case."""
-    names = [one["name"] for one in cases]
-    if len(set(names)) != len(names):
-        raise ValueError(f"two cases have one name: {sorted(name for name in set(names) if names.count(name) > 1)}")
+    only_once("name", [one["name"] for one in cases])
+    only_once("input", [one["call"] + json.dumps(one["given"]) for one in cases])
     head = f'{{"about": {json.dumps(about)},\n "rules": {json.dumps(section)},\n "cases": [\n'
     return head + ",\n".join(json.dumps(one) for one in cases) + "\n]}\n"

@@ -48,13 +48,13 @@ def read_cases():
     yield read_case("a leaf of no bytes", stored_leaf(b""))
     yield read_case("an inner node", inner)
     yield read_case("a leaf whose digest is another's, which a reader takes as it stands", leaf[:1] + digest(b"") + leaf[33:])
-    for node, name in ((leaf, "a leaf"), (inner, "an inner node")):
-        for length in sorted({0, 1, 32, 33, 36, 37, len(node) - 1} & set(range(len(node)))):
+    yield read_case("no bytes", b"")
+    for name, node, lengths, flags in (("a leaf", leaf, (1, 32, 33, 36, 37, len(leaf) - 1), (0, 2, 255)), ("an inner node", inner, (1, 32), (2, 255))):
+        for length in lengths:
             yield read_case(f"{name}, the first {length} bytes", node[:length])
         yield read_case(f"{name}, one byte more", node + b"\0")
-        for flag in (0, 1, 2, 255):
-            if flag != node[0]:
-                yield read_case(f"{name}, its first byte {flag}", bytes([flag]) + node[1:])
+        for flag in flags:
+            yield read_case(f"{name}, its first byte {flag}", bytes([flag]) + node[1:])
     yield read_case("no leaf: its first byte is 2, and it states 16385", b"\2" + leaf[1:33] + (16385).to_bytes(4, "big") + leaf[37:])
     for stated in (0, len(RECORD) - 1, len(RECORD) + 1, 16384, 16385, 2**32 - 1):
         yield read_case(f"a leaf that states {stated} bytes", leaf[:33] + stated.to_bytes(4, "big") + leaf[37:])
