@@ -4,6 +4,7 @@ from collections import Counter
 from pathlib import Path
 
 from expected.given import counting_bytes, flips_of, letter_in, record_of, log_of, run_record
+from page import check_page
 from rules.blake3 import PLAIN, digest, keyed
 from rules.finder import PAIR, find, log_inputs
 from rules.letters import LETTER_HEAD, WHOLE_LETTER, check_letter, index_in, items_in, letter_bytes, letter_inputs, letter_of, record_in, size_in
@@ -190,4 +191,5 @@ def check():
     good &= check_letters(20)
     good &= check_finder(9)
     good &= check_finder_order()
+    good &= check_page()
     return good
