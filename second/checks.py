@@ -1,4 +1,4 @@
-"""The rules tried on published figures, on the marked examples and on each other."""
+"""The rules tried on published figures, on the marked examples (M1 to M16 of docs/RULES.md) and on each other."""
 import zlib
 from collections import Counter
 from pathlib import Path

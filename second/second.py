@@ -1,5 +1,5 @@
 #!/usr/bin/env python3
-"""The second program: the rules of Cinchcleat once more, in standard-library Python, from docs/RULES.md alone.
+"""The second program: the rules of Cinchcleat, docs/RULES.md, once more, in standard-library Python.
 
 It shares no code with the crates. The rules stand in rules/; what the crates' programs must write by them, in expected/; test vectors for other
 implementers, in portable/.
