@@ -150,8 +150,8 @@ ASKED = {
     "store_inner": written_asked(inner_case, "digest"),
     "read_node": read_asked,
 }
-# Vectors that no call of the library answers yet: they are for other implementers, and for the second program.
-UNASKED = {"keyed_digest": "no call takes a key"}
+# Vectors that no call of the library answers, and why.
+UNASKED = {"keyed_digest": "no call takes a key", "panel": "outside/panel.sh runs the program on them"}
 
 
 def cases_in_vectors():

@@ -126,7 +126,7 @@ def told(agree, total, unasked, met):
     for name in total:
         print(f"vectors/{name}: {agree[name]} of {total[name]} agree")
     for call, count in unasked.items():
-        print(f"vectors: {count} of {call} are not asked: {UNASKED[call]}")
+        print(f"vectors: {count} {call} vectors are not asked here: {UNASKED[call]}")
     unmet = sorted(set(PARTS) - {"stray"} - met)
     print(f"vectors: {agree.total()} of {total.total()} agree" + "".join(f"\n  never met: keeper_{call}" for call in unmet))
     return agree == total and bool(total) and not unmet

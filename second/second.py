@@ -10,7 +10,6 @@ implementers, in portable/.
     second.py expect --all --verify    compare those files, and change none
     second.py vectors                  write the portable test vectors, vectors/*.json
     second.py vectors --verify         compare those files, and change none
-    second.py panel WORD..             run the panel's program, started by these words, on many inputs, and compare its verdicts
 """
 import argparse
 import sys
@@ -22,7 +21,7 @@ from expected.digest_run import expect_digest_run
 from expected.finder_run import expect_finder_run
 from expected.letter_run import expect_letter_run
 from expected.log_run import expect_log_run
-from expected.panel import expect_panel, panel_runs, panel_stdin
+from expected.panel import expect_panel, panel_stdin
 from expected.shape_run import expect_shape_run
 from expected.stored_run import expect_stored_run
 from portable.files import verify_vectors, write_vectors
@@ -78,15 +77,11 @@ def main():
     expect.add_argument("--verify", action="store_true", help="with --all: compare, and change nothing")
     vectors = commands.add_parser("vectors", help="the portable test vectors, vectors/*.json")
     vectors.add_argument("--verify", action="store_true", help="compare, and change nothing")
-    runs = commands.add_parser("panel", help="run the panel's program and compare its verdicts")
-    runs.add_argument("words", nargs=argparse.REMAINDER, help="what starts the program")
     given = parser.parse_args()
     if given.command == "check":
         return check()
     if given.command == "vectors":
         return verify_vectors() if given.verify else write_vectors()
-    if given.command == "panel":
-        return panel_runs(given.words)
     if given.all == bool(given.name) or (given.verify and not given.all):
         expect.error("give one NAME, or --all, or --all --verify")
     return expect_all(given.verify) if given.all else expect_one(given.name)

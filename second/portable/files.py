@@ -6,6 +6,7 @@ from portable.finder import finder_cases
 from portable.form import file_text
 from portable.letters import checking_cases, writing_cases
 from portable.logs import log_cases
+from portable.panel import panel_cases
 from portable.shape import shape_cases
 from portable.stored import stored_cases
 
@@ -19,6 +20,7 @@ FILES = {
     "letters-written.json": ("letters written", "9", writing_cases),
     "letters-checked.json": ("letters checked: true, damaged, forged", "9", checking_cases),
     "finder.json": ("letters beside the log that they are of", "10", finder_cases),
+    "panel.json": ("what the panel's program reads, and the number that it writes", "11", panel_cases),
 }
 
 

@@ -60,7 +60,8 @@ def writing_cases():
         ("one more than the size of 2^32 leaves", {"size": nodes_of(MOST_LEAVES) + 1}), ("index 7", {"index": 7}),
         ("index 2^64 - 1", {"index": 2**64 - 1}), ("a record of 16385 bytes", {"record": longer}), ("another record", {"record": b"other"}),
         ("one byte of nodes too few", {"nodes": nodes[:-1]}), ("bytes beyond the size", {"nodes": nodes + b"\x3c" * 33}),
-        ("a damaged leaf", {"nodes": flipped(nodes, NODE * 3)}), ("a damaged sibling, which a writer takes as it stands", {"nodes": flipped(nodes, NODE * 4)}),
+        ("a damaged leaf", {"nodes": flipped(nodes, NODE * 3)}),
+        ("a damaged sibling, which a writer takes as it stands", {"nodes": flipped(nodes, NODE * 4)}),
         ("another record, and no room", {"record": b"other", "room": 0}), ("too long a record, and index 7", {"record": longer, "index": 7}),
     ):
         yield write_case(f"record {INDEX} of {LEAVES}, {name}", **{**true, **change})
@@ -100,7 +101,8 @@ def damaged_cases():
         yield check_case(f"record {INDEX} of {LEAVES}, {name}", size, top, shown)
     for trusted in (0, 2, 5, 6, 9, 10, nodes_of(MOST_LEAVES), nodes_of(MOST_LEAVES) + 1):
         yield check_case(f"record {INDEX} of {LEAVES}, trusted size {trusted}", trusted, top, letter)
-    for name, other in (("a root of 31 bytes", top[:-1]), ("a root of 33 bytes", top + b"\0"), ("a root of no bytes", b""), ("another root", digest(top))):
+    for name, other in (("a root of 31 bytes", top[:-1]), ("a root of 33 bytes", top + b"\0"), ("a root of no bytes", b""),
+                        ("another root", digest(top))):
         yield check_case(f"record {INDEX} of {LEAVES}, {name}", size, other, letter)
     yield check_case("trusted size 2, and a root of 31 bytes", 2, top[:-1], letter)
     yield check_case("a root of 31 bytes, and no letter", size, top[:-1], b"")
@@ -109,16 +111,17 @@ def damaged_cases():
 def large_cases():
     """Letters of logs that nobody has built, of up to 2^32 leaves, whose items decide on the root; records at the limit."""
     size, top, letter = longest_letter()
-    for name, shown in (("", letter), (", one byte short", letter[:-1]), (", one byte long", letter + b"\0"), (", another byte", flipped(letter, 5000)),
-                        (", stating 16385 bytes", restated(letter, 16, 20, 16385)), (", index 2^32", restated(letter, 8, 16, MOST_LEAVES))):
+    for name, shown in (("", letter), (", one byte short", letter[:-1]), (", one byte long", letter + b"\0"),
+                        (", another byte", flipped(letter, 5000)), (", stating 16385 bytes", restated(letter, 16, 20, 16385)), (", index 2^32", restated(letter, 8, 16, MOST_LEAVES))):
         yield check_case(f"the longest letter{name}", size, top, shown)
-    for leaves, index in ((MOST_LEAVES, 0), (MOST_LEAVES, MOST_LEAVES - 1), (MOST_LEAVES - 1, 0), (MOST_LEAVES - 1, MOST_LEAVES - 2), (2**31 + 1, 2**31)):
+    for leaves, index in ((MOST_LEAVES, 0), (MOST_LEAVES, MOST_LEAVES - 1), (MOST_LEAVES - 1, 0), (MOST_LEAVES - 1, MOST_LEAVES - 2),
+                          (2**31 + 1, 2**31)):
         items = [digest(bytes([number])) for number in range(len(items_of(leaves, index)))]
         shown = letter_bytes(nodes_of(leaves), index, b"far", items)
         yield check_case(f"record {index} of {leaves}", nodes_of(leaves), worked_root(leaves, shown, digest), shown)
-    longer = letter_bytes(1, 0, counted(8, LONGEST_RECORD + 1), [])
-    yield check_case("a record of 16385 bytes, with its own root", 1, digest(counted(8, LONGEST_RECORD + 1)), longer)
-    yield check_case("a record of 16384 bytes, with its own root", 1, digest(counted(8, LONGEST_RECORD)), letter_bytes(1, 0, counted(8, LONGEST_RECORD), []))
+    for length in (LONGEST_RECORD, LONGEST_RECORD + 1):
+        record = counted(8, length)
+        yield check_case(f"a record of {length} bytes, with its own root", 1, digest(record), letter_bytes(1, 0, record, []))
 
 
 def forged_cases():

@@ -49,7 +49,8 @@ def read_cases():
     yield read_case("an inner node", inner)
     yield read_case("a leaf whose digest is another's, which a reader takes as it stands", leaf[:1] + digest(b"") + leaf[33:])
     yield read_case("no bytes", b"")
-    for name, node, lengths, flags in (("a leaf", leaf, (1, 32, 33, 36, 37, len(leaf) - 1), (0, 2, 255)), ("an inner node", inner, (1, 32), (2, 255))):
+    for name, node, lengths, flags in (("a leaf", leaf, (1, 32, 33, 36, 37, len(leaf) - 1), (0, 2, 255)),
+                                       ("an inner node", inner, (1, 32), (2, 255))):
         for length in lengths:
             yield read_case(f"{name}, the first {length} bytes", node[:length])
         yield read_case(f"{name}, one byte more", node + b"\0")
