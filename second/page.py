@@ -1,4 +1,4 @@
-"""The examples of docs/RULES.md, made by the rules: each has to stand in the page, and the page has no digest that is not made here."""
+"""The page of rules, docs/RULES.md: its examples have to be as the rules make them, and a section that is cited somewhere has to be there."""
 import re
 from pathlib import Path
 
@@ -9,7 +9,10 @@ from rules.log import LONGEST_RECORD, NODE, append, node, root
 from rules.shape import MOST_LEAVES, items_of, leaf_count, leaf_position, nodes_of, size_of
 from rules.stored import stored_inner, stored_leaf
 
-PAGE = Path(__file__).resolve().parent.parent / "docs" / "RULES.md"
+TOP = Path(__file__).resolve().parent.parent
+PAGE = TOP / "docs" / "RULES.md"
+# Where sections are cited.
+CITING = ("second/**/*.py", "outside/**/*.[pc]*", "vectors/*", "include/*.h", "hosts/*.[chp]*", "docs/*.md", "crates/**/*.rt", "crates/**/*.antt")
 RECORDS = (b"goal", b"no goal", b"corner")
 # Section 9.3: the name of an example, the leaf count, the index.
 ITEMS = (("", 1, 0), ("", 2, 1), ("", 3, 2), ("M14", 5, 2), ("M15", 7, 4), ("M16", 7, 0), ("", 8, 3), ("", 11, 9))
@@ -92,9 +95,8 @@ def as_said():
             and (len(letter), len(whole), panel(whole)) == (91, 131, 0) and check_letter(1, digest(b""), WHOLE_LETTER).number == 0)
 
 
-def check_page():
+def examples_stand(page):
     """Look for each example in the page, and for digests in it that are none."""
-    page = PAGE.read_text()
     lines, squeezed = " ".join(page.split()), "".join(page.split())
     made = [data.hex() for data in example_bytes()]
     wanted = [(text, lines) for text in (*shape_rows(), *item_rows(), *sentences())] + [(text, squeezed) for text in made]
@@ -105,7 +107,31 @@ def check_page():
     for text in foreign:
         print(f"rules: in docs/RULES.md, and of nothing that is made here: {text}")
     print(f"rules: {len(wanted) - len(missing)} of {len(wanted)} examples of docs/RULES.md are as the rules make them")
-    told = as_said()
+    return not missing and not foreign
+
+
+def citations():
+    """The sections that are cited: where, and which."""
+    for path in sorted({path for where in CITING for path in TOP.glob(where) if path.is_file()}):
+        for cited in re.findall(r"RULES (\d+(?:\.\d+)?(?:, \d+\.\d+)*)", path.read_text(errors="replace")):
+            yield from ((path.relative_to(TOP), section) for section in cited.split(", "))
+
+
+def citations_stand(page):
+    """Look for each section that is cited, and each that the page itself points to."""
+    sections = set(re.findall(r"^##+ (\d+(?:\.\d+)?)\.? ", page, re.MULTILINE))
+    cited = [*citations(), *((PAGE.relative_to(TOP), section) for section in re.findall(r"\b(\d{1,2}\.\d)\b(?![\d,])", page))]
+    wrong = [(path, section) for path, section in cited if section not in sections]
+    for path, section in wrong:
+        print(f"rules: {path} cites section {section}, which docs/RULES.md does not have")
+    print(f"rules: {len(cited) - len(wrong)} of {len(cited)} citations lead to one of {len(sections)} sections")
+    return not wrong
+
+
+def check_page():
+    """Its examples, the numbers that it gives them, and what cites it."""
+    page, told = PAGE.read_text(), as_said()
     if not told:
         print("rules: an example of docs/RULES.md has another number than the page says")
-    return not missing and not foreign and told
+    good = examples_stand(page)
+    return citations_stand(page) and good and told

@@ -112,7 +112,8 @@ def large_cases():
     """Letters of logs that nobody has built, of up to 2^32 leaves, whose items decide on the root; records at the limit."""
     size, top, letter = longest_letter()
     for name, shown in (("", letter), (", one byte short", letter[:-1]), (", one byte long", letter + b"\0"),
-                        (", another byte", flipped(letter, 5000)), (", stating 16385 bytes", restated(letter, 16, 20, 16385)), (", index 2^32", restated(letter, 8, 16, MOST_LEAVES))):
+                        (", another byte", flipped(letter, 5000)), (", stating 16385 bytes", restated(letter, 16, 20, 16385)),
+                        (", index 2^32", restated(letter, 8, 16, MOST_LEAVES))):
         yield check_case(f"the longest letter{name}", size, top, shown)
     for leaves, index in ((MOST_LEAVES, 0), (MOST_LEAVES, MOST_LEAVES - 1), (MOST_LEAVES - 1, 0), (MOST_LEAVES - 1, MOST_LEAVES - 2),
                           (2**31 + 1, 2**31)):
