@@ -117,7 +117,7 @@ def check_asked(given, answer):
 def find_asked(given, answer):
     rooms = given["log_input_room"], given["letter_input_room"]
     case = find_case(given["size"], given["nodes"], given["record"], given["letter"], rooms)
-    return asked_once(case, answer, lambda: [u32({"same": 1}[answer["found"]])])
+    return asked_once(case, answer, lambda: [u32({"same": 1, "records": 2, "pair": 3}[answer["found"]])])
 
 
 def written_asked(make, name):

@@ -72,15 +72,14 @@ def other(value):
     if isinstance(value, bytes):
         return flipped(value, len(value) // 2) if value else b"\0"
     if isinstance(value, str):
-        return {"inner": "leaf", "leaf": "inner"}[value]
+        return {"inner": "leaf", "leaf": "inner", "same": "records"}[value]
     return [other(value[0]), *value[1:]] if value else [[0]]
 
 
 def damaged(vector):
-    """The vector with each field of its answer made wrong in turn. "same" is left: the files have no other word for what is found."""
+    """The vector with each field of its answer made wrong in turn."""
     for name, value in vector.answer.items():
-        if name != "found":
-            yield vector._replace(answer={**vector.answer, name: other(value)})
+        yield vector._replace(answer={**vector.answer, name: other(value)})
 
 
 def noticed(bridge, vector):

@@ -19,10 +19,10 @@ def keyed_case(name, data):
 
 def digest_cases():
     """Runs of counting bytes, plain and keyed; two digests as a parent has them, in both orders; bytes that do not count."""
-    of = {n: digest(counted(0, n)) for n in (0, 1)}
+    of = {n: digest(counted(9, n)) for n in (2, 31)}
     for length in LENGTHS:
         yield plain_case(f"{length} bytes", counted(9, length))
-    for left, right in ((0, 1), (1, 0), (1, 1)):
+    for left, right in ((2, 31), (31, 2), (2, 2)):
         yield plain_case(f"the digest of {left} bytes, then that of {right}", of[left] + of[right])
     yield plain_case("64 zeros", bytes(64))
     yield plain_case("1,024 bytes of value 255", b"\xff" * 1024)

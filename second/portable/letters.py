@@ -7,7 +7,9 @@ from rules.letters import LETTER_HEAD, WHOLE_LETTER, check_letter, items_in, let
 from rules.log import LONGEST_RECORD, NODE, node, root
 from rules.shape import MOST_LEAVES, items_of, leaf_count, nodes_of
 
+# Every letter of logs of up to so many records, and some of larger ones: the leaf count, and the index.
 MOST = 8
+LARGER = ((11, 0), (11, 9), (15, 0), (15, 9), (15, 14), (16, 5))
 # The letter that is damaged: its log's leaf count, and its index.
 LEAVES, INDEX = 7, 2
 
@@ -39,12 +41,10 @@ def restated(letter, start, end, number):
 
 
 def true_letters():
-    """Every letter of logs of 1 to 8 records: its name, size, index, record, nodes, root and the letter."""
-    for leaves in range(1, MOST + 1):
-        size, nodes = small_log(leaves)
-        for index in range(leaves):
-            record = logged(index)
-            yield f"record {index} of {leaves}", size, index, record, nodes, root(size, nodes).digest, letter_of(size, index, record, nodes)
+    """Letters of small logs: the name, size, index, record, nodes, root and the letter."""
+    for leaves, index in (*((leaves, index) for leaves in range(1, MOST + 1) for index in range(leaves)), *LARGER):
+        (size, nodes), record = small_log(leaves), logged(index)
+        yield f"record {index} of {leaves}", size, index, record, nodes, root(size, nodes).digest, letter_of(size, index, record, nodes)
 
 
 def writing_cases():
