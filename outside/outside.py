@@ -2,8 +2,8 @@
 """The calls for C from outside: the library and the second program answer the same thousands of true, random and damaged inputs.
 
 A C program, outside/bridge.c, makes each call on buffers that lie against forbidden pages and hands back the number and every byte that it lent,
-result variables too. What the second program says is compared with all of it. Each refusal alone, at its edge, stands in vectors/, which
-outside/vectors.py holds the library to; here is what such a list cannot hold, and no case that it has. The finder's "records" and "pair" are two
+result variables too. What the second program says is compared with all of it. Each refusal alone, and every two at once, stand in vectors/, which
+outside/vectors.py holds the library to; here is what such files cannot hold, and no case that they have. The finder's "records" and "pair" are two
 strings of one digest: nobody has such strings, so of its answers only "same" and the refusals are met here.
 
     outside.py                        build the bridge and compare

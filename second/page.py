@@ -3,6 +3,7 @@ import re
 from pathlib import Path
 
 from expected.given import counting_bytes
+from portable.orders import FROM_7, ORDERS
 from rules.blake3 import digest
 from rules.letters import PANEL_HEAD, PANEL_MOST, WHOLE_LETTER, check_letter, letter_bytes, letter_of, panel
 from rules.log import LONGEST_RECORD, NODE, append, node, root
@@ -54,6 +55,17 @@ def item_rows():
         yield f"| {name + ' ' if name else ''}| {leaves} | {index} | {', '.join(said) or 'none'} |"
 
 
+def order_rows():
+    """Rows of section 3."""
+    for name, call in (("append", "append"), ("root", "root"), ("letter, written", "letter_write")):
+        yield f"| {name} | {', '.join(ORDERS[call])} |"
+    yield f"| **from 7** | {', '.join(FROM_7)} |"
+    if ORDERS["letter_check"] == ("1", "12", *FROM_7):
+        yield "| letter, checked | 1, 12, then **from 7** |"
+    if ORDERS["find"] == ("1", "10", "4", *FROM_7, "3 (record)", "13", "14", "6 (first buffer)", "6 (second buffer)"):
+        yield "| finder | 1, 10, 4, **from 7** with the root of its own nodes, 3 and 13 for the log's record, 14, 6 (first buffer), "
+
+
 def sentences():
     """Numbers that stand in sentences."""
     answers = small_log()[1]
@@ -99,7 +111,7 @@ def examples_stand(page):
     """Look for each example in the page, and for digests in it that are none."""
     lines, squeezed = " ".join(page.split()), "".join(page.split())
     made = [data.hex() for data in example_bytes()]
-    wanted = [(text, lines) for text in (*shape_rows(), *item_rows(), *sentences())] + [(text, squeezed) for text in made]
+    wanted = [(text, lines) for text in (*order_rows(), *shape_rows(), *item_rows(), *sentences())] + [(text, squeezed) for text in made]
     missing = [text for text, where in wanted if text not in where]
     foreign = [found for found in re.findall("[0-9a-f]{64}", page) if not any(found in one for one in made)]
     for text in missing:

@@ -1,21 +1,21 @@
 """The inputs that outside/outside.py puts before the calls for C: true ones, damaged ones, random ones, each case from its number alone.
 
-The fixed cases are the same for every seed: numbers beside the edges, letters and stored nodes with every byte damaged, logs of every length, and
-for each call every two refusals at once. None stands twice, and none in vectors/. The random ones take a true input and change some of its parts,
-or none.
+The fixed cases are the same for every seed: numbers beside the edges, letters and stored nodes with every byte damaged, logs of every length,
+stored nodes of every form. None stands twice, and none in vectors/, which have each refusal alone and every two at once. The random ones take a
+true input and change some of its parts, or none.
 """
 import itertools
 
 from inputs.chance import Chance, random_case
-from inputs.fixed import fixed_digests, fixed_letters, fixed_logs, fixed_nodes, fixed_numbers, letter_orders, log_orders, node_orders
+from inputs.fixed import fixed_digests, fixed_forms, fixed_letters, fixed_logs, fixed_nodes, fixed_numbers, fixed_roots
 from inputs.world import World
 from vector_cases import cases_in_vectors
 
 
 def fixed_cases(world):
     """The fixed cases."""
-    yield from itertools.chain(fixed_numbers(), fixed_digests(world), fixed_letters(world), fixed_logs(world), fixed_nodes(world))
-    yield from itertools.chain(letter_orders(world), log_orders(world), node_orders(world))
+    yield from itertools.chain(fixed_numbers(), fixed_digests(world), fixed_letters(world), fixed_logs(world), fixed_roots(world))
+    yield from itertools.chain(fixed_nodes(world), fixed_forms(world))
 
 
 def each_once(given, seen):

@@ -1,12 +1,11 @@
-"""The fixed cases: numbers beside the edges, every byte of some letters and nodes damaged, logs of every length; then every two refusals at once."""
+"""The fixed cases: numbers beside the edges, every byte of some letters and nodes damaged, logs of every length, stored nodes of every form."""
 import itertools
 
 from calls import append_case, check_case, digest_case, find_case, flipped, inner_case, number_case, read_case, root_case, write_case
-from rules import letters, stored
-from rules.finder import PAIR
+from rules import stored
 from rules.letters import LETTER_HEAD
 from rules.log import LONGEST_RECORD, NODE
-from rules.shape import MOST_LEAVES, nodes_of
+from rules.shape import nodes_of
 
 
 def damaged(data):
@@ -60,6 +59,13 @@ def fixed_logs(world):
                 yield root_case(size, world.nodes(leaves).ljust(NODE * size + spare, b"\x3c")[:NODE * size + spare], NODE)
 
 
+def fixed_roots(world):
+    """The root into an output that is not of 32 bytes, which only C has (RULES 4.4): alone, and beside each other refusal."""
+    size, nodes = nodes_of(7), world.nodes(7)
+    for (named, lent), room in itertools.product(((size, nodes), (2, nodes), (0, nodes), (size, nodes[:-1])), (0, NODE - 1, NODE + 1)):
+        yield root_case(named, lent, room)
+
+
 def fixed_nodes(world):
     """Stored nodes with every byte damaged, and the digest into 32 bytes, one less and one more."""
     leaf, inner = stored.stored_leaf(world.records[1]), stored.stored_inner(world.root(1))
@@ -68,59 +74,8 @@ def fixed_nodes(world):
             yield read_case(data, room)
 
 
-def with_changes(true, changes):
-    """The true inputs with every two changes of different parts. One change alone is a case of vectors/."""
-    for one, other in itertools.combinations(changes, 2):
-        if not set(one) & set(other):
-            yield {**true, **one, **other}
-
-
-def letter_from(named, index, stated, body, length):
-    """A letter of these numbers, record and items, cut at a length or with zeros behind it."""
-    head = named.to_bytes(8, "big") + index.to_bytes(8, "big") + stated.to_bytes(4, "big")
-    return (head + body).ljust(length, b"\0")[:length]
-
-
-def letter_changes(letter):
-    """A letter's parts, and changes of them that are refused."""
-    body = letter[LETTER_HEAD:]
-    true = {"named": letters.size_in(letter), "index": letters.index_in(letter), "stated": letters.stated_in(letter), "body": body,
-            "length": len(letter)}
-    return true, ({"length": 19}, {"length": len(letter) - 1}, {"length": len(letter) + NODE}, {"named": 10}, {"index": 7}, {"index": 2**64 - 1},
-                  {"stated": LONGEST_RECORD + 1}, {"stated": true["stated"] + 1}, {"body": flipped(body, len(body) - 1)})
-
-
-def letter_orders(world):
-    """The orders of writing a letter, of checking one and of the finder, on the fourth of seven records."""
-    size, nodes, top, record, letter = nodes_of(7), world.nodes(7), world.root(7), world.records[3], world.letter(7, 3)
-    short, inner = nodes[:-1], flipped(nodes, NODE * 5)
-    others = ({"record": b"other"}, {"record": world.longer}, {"nodes": short}, {"nodes": inner}, {"size": 2}, {"size": 2**33}, {"size": 0})
-    true = {"size": size, "index": 3, "record": record, "nodes": nodes, "room": len(letter)}
-    for given in with_changes(true, (*others, {"index": 7}, {"index": 2**64 - 1}, {"room": len(letter) - 1}, {"room": 0})):
-        yield write_case(**given)
-    parts, changes = letter_changes(letter)
-    tops = ({"top": top[:-1]}, {"top": top + b"\0"}, {"top": flipped(top, 9)}, {"size": 2}, {"size": 10}, {"size": 0})
-    for given in with_changes({"size": size, "top": top, **parts}, (*tops, *changes)):
-        yield check_case(given.pop("size"), given.pop("top"), letter_from(**given))
-    true = {"size": size, "nodes": nodes, "record": record, "rooms": (PAIR, PAIR), **parts}
-    for given in with_changes(true, (*others, *changes, {"rooms": (PAIR - 1, PAIR)}, {"rooms": (PAIR, PAIR - 1)})):
-        yield find_case(given.pop("size"), given.pop("nodes"), given.pop("record"), rooms=given.pop("rooms"), letter=letter_from(**given))
-
-
-def log_orders(world):
-    """The orders of append and root."""
-    full = nodes_of(MOST_LEAVES)
-    true = {"size": nodes_of(7), "record": world.records[7], "nodes": world.nodes(8)}
-    sizes = [{"size": size} for size in (2, full, full + 1, 2**64 - 1)]
-    for given in with_changes(true, (*sizes, {"record": world.longer}, {"nodes": world.nodes(8)[:-1]}, {"nodes": b""})):
-        yield append_case(**given)
-    true = {"size": nodes_of(7), "nodes": world.nodes(7), "room": NODE}
-    for given in with_changes(true, (*sizes, {"size": 0}, {"nodes": world.nodes(7)[:-1]}, {"nodes": b""}, {"room": NODE - 1}, {"room": 0})):
-        yield root_case(**given)
-
-
-def node_orders(world):
-    """The orders of stored nodes, written and read."""
+def fixed_forms(world):
+    """Inner nodes written from digests of another length; nodes read with every first byte, length and stated length that decides."""
     leaf = stored.stored_leaf(world.records[5])
     for length, room in itertools.product((0, 31, 33), (0, 32, 33, 34)):
         yield inner_case(bytes(range(length)), room)

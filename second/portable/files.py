@@ -6,6 +6,7 @@ from portable.finder import finder_cases
 from portable.form import file_text
 from portable.letters import checking_cases, writing_cases
 from portable.logs import log_cases
+from portable.orders import order_cases
 from portable.panel import panel_cases
 from portable.shape import shape_cases
 from portable.stored import stored_cases
@@ -13,6 +14,7 @@ from portable.stored import stored_cases
 VECTORS = Path(__file__).resolve().parents[2] / "vectors"
 # A file: what it is about, the section of docs/RULES.md that decides, and its cases.
 FILES = {
+    "orders.json": ("every two refusals of a call at once", "3", order_cases),
     "digests.json": ("digests, plain and keyed, beside BLAKE3's published ones in blake3-published.txt", "5", digest_cases),
     "shape.json": ("sizes, positions of leaves and leaf counts", "6", shape_cases),
     "logs.json": ("whole logs, appends and roots", "7", log_cases),

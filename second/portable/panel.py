@@ -26,6 +26,7 @@ def panel_cases():
     yield panel_case("one byte more", good + b"\0")
     yield panel_case("size 2", panel_input(2, top, letter))
     yield panel_case("size 2, no letter", panel_input(2, top, b""))
+    yield panel_case("size 2, 39 bytes", panel_input(2, top, b"")[:-1])
     yield panel_case("another size", panel_input(10, top, letter))
     yield panel_case(f"index {LEAVES}", panel_input(size, top, restated(letter, 8, 16, LEAVES)))
     yield panel_case("record length 16385", panel_input(size, top, restated(letter, 16, 20, 16385)))
