@@ -1,4 +1,4 @@
-/* The keeper's calls, as C sees them, in libkeeper.a (rt staticlib keeper).
+/* The keeper's calls, as C sees them, in libkeeper.a (rt staticlib keeper). docs/RULES.md has the rules.
    A lent slice is two arguments, a pointer and a length in bytes. The caller owes that each pointer is good for its bytes, and that what a
    call writes overlaps nothing else that it is lent. Each call returns a number: KEEPER_DONE, or the first refusal that applies, in the order
    that stands at the call. A refusal changes no lent byte and no result. No proof compares this file with crates/keeper/src/lib.rt;

@@ -1,4 +1,4 @@
-/* The library's calls over a pipe, for outside/outside.py: what a call is lent lies against forbidden pages, and all of it goes back.
+/* The library's calls over a pipe, for outside/bridge.py: what a call is lent lies against forbidden pages, and all of it goes back.
 
    A request: the call's name (16 bytes, zeros behind it), the placing (1), how many lent parts (1), two numbers (8 each), the length of each
    part (4 each), the parts' bytes. A part is a lent buffer or a result variable. An answer: whether a byte around a part was changed (1), the

@@ -2,8 +2,9 @@
 """The calls for C from outside: the library and the second program answer the same thousands of true, random and damaged inputs.
 
 A C program, outside/bridge.c, makes each call on buffers that lie against forbidden pages and hands back the number and every byte that it lent,
-result variables too. What the second program says is compared with all of it. The finder's "records" and "pair" are two strings of one digest:
-nobody has such strings, so of its answers only "same" and the refusals are met here.
+result variables too. What the second program says is compared with all of it. Each refusal alone, and every two at once, stand in vectors/, which
+outside/vectors.py holds the library to; here is what such files cannot hold, and no case that they have. The finder's "records" and "pair" are two
+strings of one digest: nobody has such strings, so of its answers only "same" and the refusals are met here.
 
     outside.py                        build the bridge and compare
     outside.py --seed N --rounds N    other random inputs, or more of them
@@ -14,24 +15,20 @@ nobody has such strings, so of its answers only "same" and the refusals are met 
 Exit status: 0 where all agree; 1 at the first difference, which is printed; 2 where nothing could be run.
 """
 import argparse
-import struct
-import subprocess
 import sys
 from collections import Counter, namedtuple
 from pathlib import Path
 
-TOP = Path(__file__).resolve().parent.parent
-sys.path.insert(0, str(TOP / "second"))
+sys.path.insert(0, str(Path(__file__).resolve().parent.parent / "second"))
 
+from bridge import Answer, Bridge, build, differences, lines_of, made_wrong, refused, wrong_answers  # noqa: E402
+from calls import Case, u32, u64  # noqa: E402
 from inputs import cases  # noqa: E402
-from inputs.world import Case, digest, flipped, u32, u64  # noqa: E402
+from inputs.world import digest  # noqa: E402
 from rules import finder, letters, log, shape, stored  # noqa: E402
 from rules.log import NODE  # noqa: E402
 
 ROUNDS = 8000
-
-# An answer: 01's number, the parts at return, and whether a byte beside them was changed.
-Answer = namedtuple("Answer", "number parts strayed")
 
 
 # ---- what the second program says of a call: the number, and the parts where it is done
@@ -122,85 +119,15 @@ CALLS = {
     "store_inner": Call(say_store_inner, (0, 12, 6)),
     "read_node": Call(say_read_node, (0, 11, 3, 6)),
 }
-# What the parts are called in a report.
-NAMES = {name: call.say.__code__.co_varnames[1:call.say.__code__.co_argcount] for name, call in CALLS.items()}
 
 
 def said(case):
     """The answer of the second program. A refusal leaves every part as it was."""
     number, parts = CALLS[case.call].say(case.numbers, *case.parts)
-    return Answer(number, list(case.parts) if number != 0 else parts, False)
-
-
-# ---- the library's answer
-
-
-class Bridge:
-    """The bridge's program, kept running."""
-
-    def __init__(self, program):
-        self.running = subprocess.Popen([program], stdin=subprocess.PIPE, stdout=subprocess.PIPE)
-
-    def ask(self, at, case):
-        """The answer of the library, or None where the program has ended. The case's number decides on the placing of the parts."""
-        numbers = [*case.numbers, 0, 0][:2]
-        head = struct.pack("<16sBB2Q", case.call.encode(), at % 4, len(case.parts), *numbers)
-        lengths = struct.pack(f"<{len(case.parts)}I", *map(len, case.parts))
-        try:
-            self.running.stdin.write(head + lengths + b"".join(case.parts))
-            self.running.stdin.flush()
-        except BrokenPipeError:
-            return None
-        start, *parts = [self.running.stdout.read(length) for length in (5, *map(len, case.parts))]
-        if len(start) < 5:
-            return None
-        strayed, number = struct.unpack("<BI", start)
-        return Answer(number, parts, strayed != 0)
-
-    def close(self):
-        """End the program; its exit status."""
-        try:
-            self.running.stdin.close()
-        except BrokenPipeError:
-            pass
-        return self.running.wait()
+    return Answer(number, parts, False) if number == 0 else refused(number, case)
 
 
 # ---- comparing
-
-
-def short(data):
-    """Bytes in hexadecimal, the middle of many left out."""
-    digits = data.hex() or "none"
-    return digits if len(digits) <= 160 else f"{digits[:120]}..{digits[-20:]} ({len(data)} bytes)"
-
-
-def differences(case, ours, theirs):
-    """What differs between the library's answer and the second program's, a line each."""
-    if ours is None:
-        return ["the library ended the bridge: it read or wrote what it was not lent, or wrote to what it only reads"]
-    lines = [] if ours.number == theirs.number else [f"number: {ours.number} from C, {theirs.number} from the second program"]
-    for name, got, wanted in zip(NAMES.get(case.call, ("part",)), ours.parts, theirs.parts):
-        if got != wanted:
-            first = next((i for i, pair in enumerate(zip(got, wanted)) if pair[0] != pair[1]), min(len(got), len(wanted)))
-            lines.append(f"{name}, from byte {first}: {short(got[first:])} from C, {short(wanted[first:])} from the second program")
-    return lines + (["a byte beside what was lent was changed"] if ours.strayed else [])
-
-
-def lines_of(case, whole):
-    """The inputs of a case."""
-    yield f"  numbers: {' '.join(map(str, case.numbers)) or 'none'}"
-    for name, part in zip(NAMES.get(case.call, ("part",)), case.parts):
-        yield f"  {name}, {len(part)} bytes: {part.hex() if whole else short(part)}"
-
-
-def made_wrong(answer, place):
-    """An answer with one bit changed: of the number, or of a part that has bytes."""
-    if place == 0:
-        return answer._replace(number=answer.number ^ 1)
-    parts = list(answer.parts)
-    parts[place - 1] = flipped(parts[place - 1], len(parts[place - 1]) // 2)
-    return answer._replace(parts=parts)
 
 
 def reported(given, at, case, lines):
@@ -212,22 +139,19 @@ def reported(given, at, case, lines):
     return bool(lines)
 
 
-def wrong_answers(right):
-    """The answer made wrong at each place in turn."""
-    return [made_wrong(right, place) for place in [0] + [1 + i for i, part in enumerate(right.parts) if part]]
-
-
 def self_test(bridge, given):
     """For each call one case of each number: every part of the second program's answer made wrong in turn, and each wrong answer noticed."""
-    noticed, seen = [], set()
-    for at, case in enumerate(cases(given.seed, 0)):
+    noticed, unseen = [], {(name, number) for name, call in CALLS.items() for number in call.order}
+    for at, case in enumerate(cases(given.seed, given.rounds)):
         right = said(case)
-        if (case.call, right.number) not in seen:
-            seen.add((case.call, right.number))
+        if (case.call, right.number) in unseen:
+            unseen.remove((case.call, right.number))
             ours = bridge.ask(at, case)
             if reported(given, at, case, differences(case, ours, right)):
                 return False
             noticed += [bool(differences(case, ours, wrong)) for wrong in wrong_answers(right)]
+        if not unseen:
+            break
     for at in range(2):
         case = Case("stray", (), [b"lent"])
         noticed.append(bool(differences(case, bridge.ask(at, case), Answer(0, [b"lent"], False))))
@@ -267,13 +191,6 @@ def finish(counts, given):
     unmet = [f"keeper_{name} {number}" for name, call in CALLS.items() for number in call.order if not counts[name, number]]
     print(f"outside: {sum(counts.values())} answers of seed {given.seed} are the same" + "".join(f"\n  never met: {line}" for line in unmet))
     return not unmet
-
-
-def build():
-    """The bridge's program, built where it has to be."""
-    if subprocess.run([TOP / "hosts" / "build.sh"], stdout=sys.stderr, check=False).returncode != 0:
-        sys.exit(2)
-    return TOP / "target" / "hosts" / "bridge"
 
 
 def main():

@@ -1,8 +1,8 @@
 #!/bin/sh
-# outside/panel.sh: runs the panel's program on inputs that the second program makes, whole and in pieces, and compares the verdicts.
+# outside/panel.sh: builds the panel's program where that is not done, and holds it to vectors/panel.json (outside/panel.py).
 # Exit status: 0 where all agree; 1 where one differs; 2 where the program could not be built.
 set -eu
 # shellcheck source=shell/program.sh
 . "$(dirname "$0")/../shell/program.sh"
 build panel
-with_program "$top/second/second.py" panel
+with_program "$top/outside/panel.py"

@@ -1,13 +1,15 @@
-"""The rules tried on published figures, on the marked examples and on each other."""
+"""The rules tried on published figures, on the marked examples (M1 to M16 of docs/RULES.md) and on each other."""
 import zlib
 from collections import Counter
 from pathlib import Path
 
-from expected.given import counting_bytes, flips_of, letter_in, record_of, log_of, run_record
+from expected.given import counting_bytes, flips_of, letter_in, log_of, run_record
+from page import check_page
+from portable.orders import check_orders
 from rules.blake3 import PLAIN, digest, keyed
 from rules.finder import PAIR, find, log_inputs
 from rules.letters import LETTER_HEAD, WHOLE_LETTER, check_letter, index_in, items_in, letter_bytes, letter_inputs, letter_of, record_in, size_in
-from rules.log import LONGEST_RECORD, NODE, append, folded, node, plain_root, root
+from rules.log import NODE, append, folded, node, plain_root, root
 from rules.shape import items_of, leaf_count, leaf_position, nodes_of, size_of, trailing_ones
 
 PUBLISHED = Path(__file__).resolve().parent.parent / "vectors" / "blake3-published.txt"
@@ -156,30 +158,6 @@ def check_finder(most):
     return wrong == 0 and set(counts) == {"same", "records", "pair"}
 
 
-def finder_refusals():
-    """Calls of the finder on a log of four: the number, and what differs from a call that is done."""
-    size, buffer = log_of(4)
-    record, letter = record_of(0), letter_of(size, 0, record_of(0), buffer)
-    done = {"size": size, "record": record, "buffer": buffer, "letter": letter, "ours": bytearray(PAIR), "theirs": bytearray(PAIR)}
-    inner = buffer[:NODE * 2] + bytes(NODE) + buffer[NODE * 3:]
-    for number, change in (
-        (0, {}), (1, {"size": 2, "buffer": b""}), (10, {"size": 0, "buffer": b""}), (4, {"buffer": buffer[:-1], "letter": b""}),
-        (7, {"letter": letter[:19]}), (8, {"letter": b"\1" + letter[1:]}), (5, {"letter": letter[:15] + b"\4" + letter[16:]}),
-        (3, {"letter": letter[:16] + b"\1" + letter[17:]}), (7, {"letter": letter + b"\0"}),
-        (9, {"letter": letter[:-1] + bytes([letter[-1] ^ 1]), "record": b"other"}),
-        (3, {"record": bytes(LONGEST_RECORD + 1), "buffer": inner}), (13, {"record": b"other", "buffer": inner}),
-        (14, {"buffer": inner, "ours": bytearray()}), (6, {"ours": bytearray(PAIR - 1)}), (6, {"theirs": bytearray(PAIR - 1)}),
-    ):
-        yield number, find(**{**done, **change}).number
-
-
-def check_finder_order():
-    """The finder's refusals, each at its place in the order."""
-    wrong = [(number, got) for number, got in finder_refusals() if number != got]
-    print(f"finder: {len(list(finder_refusals())) - len(wrong)} calls give the first number that applies; {len(wrong)} do not")
-    return not wrong
-
-
 def check():
     """Try the rules on the published figures, on the marked examples and on each other."""
     figures = list(published_figures())
@@ -189,5 +167,6 @@ def check():
     good &= check_logs(70)
     good &= check_letters(20)
     good &= check_finder(9)
-    good &= check_finder_order()
+    good &= check_orders()
+    good &= check_page()
     return good

@@ -1,13 +1,15 @@
 #!/usr/bin/env python3
-"""The second program: the rules of Cinchcleat once more, in standard-library Python, from the public documents alone.
+"""The second program: the rules of Cinchcleat, docs/RULES.md, once more, in standard-library Python.
 
-It shares no code with the crates. The rules stand in rules/; what the crates' programs must write by them, in expected/.
+It shares no code with the crates. The rules stand in rules/; what the crates' programs must write by them, in expected/; test vectors for other
+implementers, in portable/.
 
     second.py check                    try the rules on published figures and marked examples, and on each other
     second.py expect NAME              print what the program crates/NAME must write
     second.py expect --all             write what each program must write to crates/NAME/stdout, and what the panel reads to its stdin
     second.py expect --all --verify    compare those files, and change none
-    second.py panel WORD..             run the panel's program, started by these words, on many inputs, and compare its verdicts
+    second.py vectors                  write the portable test vectors, vectors/*.json
+    second.py vectors --verify         compare those files, and change none
 """
 import argparse
 import sys
@@ -19,9 +21,10 @@ from expected.digest_run import expect_digest_run
 from expected.finder_run import expect_finder_run
 from expected.letter_run import expect_letter_run
 from expected.log_run import expect_log_run
-from expected.panel import expect_panel, panel_runs, panel_stdin
+from expected.panel import expect_panel, panel_stdin
 from expected.shape_run import expect_shape_run
 from expected.stored_run import expect_stored_run
+from portable.files import verify_vectors, write_vectors
 
 TOP = Path(__file__).resolve().parent.parent
 EXPECTED = {
@@ -72,13 +75,13 @@ def main():
     expect.add_argument("name", nargs="?", help="one program: print what it must write")
     expect.add_argument("--all", action="store_true", help="every program: write crates/NAME/stdout")
     expect.add_argument("--verify", action="store_true", help="with --all: compare, and change nothing")
-    runs = commands.add_parser("panel", help="run the panel's program and compare its verdicts")
-    runs.add_argument("words", nargs=argparse.REMAINDER, help="what starts the program")
+    vectors = commands.add_parser("vectors", help="the portable test vectors, vectors/*.json")
+    vectors.add_argument("--verify", action="store_true", help="compare, and change nothing")
     given = parser.parse_args()
     if given.command == "check":
         return check()
-    if given.command == "panel":
-        return panel_runs(given.words)
+    if given.command == "vectors":
+        return verify_vectors() if given.verify else write_vectors()
     if given.all == bool(given.name) or (given.verify and not given.all):
         expect.error("give one NAME, or --all, or --all --verify")
     return expect_all(given.verify) if given.all else expect_one(given.name)

@@ -2,7 +2,8 @@
 import random
 from collections import namedtuple
 
-from inputs.world import EDGES, LEAVES, LENGTHS, Case, digest, flipped
+from calls import Case, flipped
+from inputs.world import EDGES, LEAVES, LENGTHS, digest
 from rules import letters, shape, stored
 from rules.finder import PAIR
 from rules.log import LONGEST_RECORD, NODE

@@ -84,7 +84,7 @@ def lines_of_changes(size, top, letter):
 
 
 def lines_of_shortcuts():
-    """Letters that pass where the size is the letter's own, checked against the true size and against their own; then 01's whole letter."""
+    """Letters that pass where the size is their own, against the true size and against their own; the whole letter of one empty record."""
     for label, size, nodes, named, index, record, items in (
         ("last of three as second of two", *log_of(3), 3, 1, record_of(2), [2]),
         ("two leaf digests as one record", *log_of(2), 1, 0, log_of(2)[1][:2 * NODE], []),

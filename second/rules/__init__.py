@@ -1,1 +1,1 @@
-"""The rules of Cinchcleat once more, in standard-library Python, from the public documents alone. They share no code with the crates."""
+"""The rules of Cinchcleat, docs/RULES.md, once more, in standard-library Python: a module for a section. They share no code with the crates."""

@@ -1,4 +1,4 @@
-"""BLAKE3: the compression, chunks, parents, the tree; plain and keyed."""
+"""BLAKE3 (RULES 5): the compression, chunks, parents, the tree; plain and keyed."""
 import struct
 from collections import namedtuple
 

@@ -1,4 +1,4 @@
-"""The finder: an accepted letter beside the log."""
+"""The finder (RULES 10): an accepted letter beside the log."""
 from collections import namedtuple
 
 from rules.blake3 import digest

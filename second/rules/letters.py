@@ -1,4 +1,4 @@
-"""Letters: written, checked, judged by the panel's program."""
+"""Letters, written and checked (RULES 9); the panel's program (RULES 11)."""
 from collections import namedtuple
 
 from rules.blake3 import digest
@@ -9,7 +9,7 @@ LETTER_HEAD = 20
 MOST_ITEMS = 32
 PANEL_HEAD = 40
 PANEL_MOST = 17469
-# The whole letter of one empty record, as the rules have it; its root is the digest of empty input.
+# The whole letter of one empty record (RULES 9.7); its root is the digest of empty input.
 WHOLE_LETTER = bytes([0] * 7 + [1] + [0] * 12)
 Written = namedtuple("Written", "number length")
 # What the checker returns: the number, the index, and where the record lies in the letter.
@@ -109,7 +109,7 @@ def letter_inputs(leaves, letter, digest):
 
 
 def worked_root(leaves, letter, digest):
-    """The root worked out from a letter."""
+    """The root worked out from a letter (RULES 9.5)."""
     inputs = letter_inputs(leaves, letter, digest)
     return digest(inputs[0] if inputs else record_in(letter))
 

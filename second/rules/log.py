@@ -1,4 +1,4 @@
-"""Append and root. The digest function is a parameter, so that the rules can be tried with one that has collisions."""
+"""Append and root (RULES 7). The digest function is a parameter, so that the rules can be tried with one that has collisions."""
 from collections import namedtuple
 
 from rules.blake3 import digest, digest_of_pair, left_chunks
@@ -54,7 +54,7 @@ def root(size, buffer, digest=digest):
 
 
 def plain_root(digests):
-    """The root by the plain rule: more digests than one are split after the largest power of two below their number."""
+    """The root by the plain rule (RULES 7.5): more digests than one are split after the largest power of two below their number."""
     if len(digests) == 1:
         return digests[0]
     left = left_chunks(len(digests))

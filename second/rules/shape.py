@@ -1,4 +1,4 @@
-"""Sizes, positions and counts; the peaks of a log, the path to a leaf, the items of a letter."""
+"""Sizes, positions and counts (RULES 6); the peaks of a log, the path to a leaf, the items of a letter (RULES 9.2)."""
 from collections import namedtuple
 
 MOST_LEAVES = 2**32

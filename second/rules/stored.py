@@ -1,4 +1,4 @@
-"""Stored nodes, written and read."""
+"""Stored nodes, written and read (RULES 8)."""
 from collections import namedtuple
 
 from rules.blake3 import digest

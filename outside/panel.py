@@ -1,0 +1,82 @@
+#!/usr/bin/env python3
+"""The panel's program held to vectors/panel.json: run on each input, at once and in pieces, and what it writes compared with the file's number.
+
+    panel.py WORD..                the words that start the program
+    panel.py --self-test WORD..    only try that a wrong number is noticed (each run begins with this)
+
+Exit status: 0 where all agree; 1 where one differs, which is printed.
+"""
+import argparse
+import subprocess
+import sys
+import time
+
+from vector_cases import vectors
+
+# An input that is given in pieces too: how long it is at least, and in how many.
+IN_PIECES = 100
+PIECES = (2, 3, 7)
+
+
+def run_panel(words, data, pieces):
+    """What the program writes. Each piece is there for a while before the next one."""
+    step = -(-len(data) // pieces)
+    with subprocess.Popen(words, stdin=subprocess.PIPE, stdout=subprocess.PIPE) as program:
+        for at in range(0, len(data), step or 1):
+            try:
+                program.stdin.write(data[at:at + step])
+                program.stdin.flush()
+            except BrokenPipeError:
+                break
+            time.sleep(0.05 if pieces > 1 else 0)
+        try:
+            program.stdin.close()
+        except BrokenPipeError:
+            pass
+        return program.stdout.read()
+
+
+def runs():
+    """A name, the input, in how many pieces it is given, and the number. The first input of each number is given in pieces too."""
+    seen = set()
+    for vector in vectors():
+        if vector.call == "panel":
+            data, number = vector.given["input"], vector.answer["number"]
+            first = number not in seen and len(data) >= IN_PIECES
+            seen |= {number} if first else set()
+            for pieces in (1, *PIECES) if first or len(data) > 17000 else (1,):
+                yield f"{vector.name}, in {pieces} pieces" if pieces > 1 else vector.name, data, pieces, number
+
+
+def agrees(words, name, data, pieces, number):
+    """Whether the program writes the number and a newline, and nothing else."""
+    wrote, expected = run_panel(words, data, pieces), f"{number}\n".encode()
+    if wrote != expected:
+        print(f"panel, {name}: wrote {wrote}, but {expected} is expected")
+    return wrote == expected
+
+
+def self_test(words):
+    """A wrong number is noticed."""
+    _, data, pieces, number = next(runs())
+    noticed = run_panel(words, data, pieces) != f"{number + 1}\n".encode()
+    print(f"panel: a wrong number is {'noticed' if noticed else 'not noticed'}")
+    return noticed
+
+
+def main():
+    parser = argparse.ArgumentParser(description=__doc__, formatter_class=argparse.RawDescriptionHelpFormatter)
+    parser.add_argument("--self-test", action="store_true", help="only try that a wrong number is noticed")
+    parser.add_argument("words", nargs=argparse.REMAINDER, help="what starts the program")
+    given = parser.parse_args()
+    noticed = self_test(given.words)
+    if not noticed or given.self_test:
+        return noticed
+    results = [agrees(given.words, *run) for run in runs()]
+    numbers = sorted({number for _, _, _, number in runs()})
+    print(f"panel: {results.count(True)} of {len(results)} verdicts agree, with the numbers {' '.join(map(str, numbers))}")
+    return all(results)
+
+
+if __name__ == "__main__":
+    sys.exit(0 if main() else 1)

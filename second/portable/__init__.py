@@ -1,0 +1,1 @@
+"""The portable test vectors, by the rules: a module for each file of vectors/."""

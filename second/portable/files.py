@@ -1,0 +1,55 @@
+"""The files of portable vectors, and what makes each: written, or compared with what is stored."""
+from pathlib import Path
+
+from portable.digests import digest_cases
+from portable.finder import finder_cases
+from portable.form import file_text
+from portable.letters import checking_cases, writing_cases
+from portable.logs import log_cases
+from portable.orders import order_cases
+from portable.panel import panel_cases
+from portable.shape import shape_cases
+from portable.stored import stored_cases
+
+VECTORS = Path(__file__).resolve().parents[2] / "vectors"
+# A file: what it is about, the section of docs/RULES.md that decides, and its cases.
+FILES = {
+    "orders.json": ("every two refusals of a call at once", "3", order_cases),
+    "digests.json": ("digests, plain and keyed, beside BLAKE3's published ones in blake3-published.txt", "5", digest_cases),
+    "shape.json": ("sizes, positions of leaves and leaf counts", "6", shape_cases),
+    "logs.json": ("whole logs, appends and roots", "7", log_cases),
+    "stored.json": ("stored nodes, written and read", "8", stored_cases),
+    "letters-written.json": ("letters written", "9", writing_cases),
+    "letters-checked.json": ("letters checked: true, damaged, forged", "9", checking_cases),
+    "finder.json": ("letters beside the log that they are of", "10", finder_cases),
+    "panel.json": ("what the panel's program reads, and the number that it writes", "11", panel_cases),
+}
+
+
+def texts():
+    """Each file's name, its text, and how many cases it has."""
+    for name, (about, section, made) in FILES.items():
+        cases = list(made())
+        yield name, file_text(about, section, cases), len(cases)
+
+
+def write_vectors():
+    """Write every file."""
+    for name, text, count in texts():
+        (VECTORS / name).write_text(text)
+        print(f"vectors/{name}: {count} cases written")
+    return True
+
+
+def verify_vectors():
+    """Compare every file with what is made now, and look for files that nothing makes."""
+    good = True
+    for name, text, count in texts():
+        stored = VECTORS / name
+        same = stored.is_file() and stored.read_text() == text
+        print(f"vectors/{name}: " + (f"{count} cases as expected" if same else "differs from what is expected"))
+        good &= same
+    for other in sorted({path.name for path in VECTORS.glob("*.json")} - set(FILES)):
+        print(f"vectors/{other}: nothing makes it")
+        good = False
+    return good

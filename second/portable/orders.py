@@ -1,0 +1,95 @@
+"""The vectors of the orders (RULES 3): every two refusals of a call at once."""
+import itertools
+
+from portable.form import counted, logged
+from portable.finder import find_case
+from portable.letters import check_case, flipped, write_case
+from portable.logs import append_case, root_case, small_log
+from rules.finder import PAIR
+from rules.letters import LETTER_HEAD, letter_of
+from rules.log import LONGEST_RECORD, NODE, root
+from rules.shape import MOST_LEAVES, nodes_of
+
+LEAVES, INDEX = 3, 0
+# An order: its entries, each a number and where there are two of it a word for which.
+FROM_7 = ("7 (under 20 bytes)", "8", "5", "15", "3 (stated length)", "7 (exact length)", "9")
+ORDERS = {
+    "append": ("1", "2", "3", "4"),
+    "root": ("1", "10", "4"),
+    "letter_write": ("1", "5", "3", "4", "15", "13", "6"),
+    "letter_check": ("1", "12", *FROM_7),
+    "find": ("1", "10", "4", *FROM_7, "3 (record)", "13", "14", "6 (first buffer)", "6 (second buffer)"),
+}
+
+
+def letter_from(size, index, stated, body, length):
+    """A letter of these numbers, record and items, cut at a length or with zeros behind it."""
+    head = size.to_bytes(8, "big") + index.to_bytes(8, "big") + stated.to_bytes(4, "big")
+    return (head + body).ljust(length, b"\0")[:length]
+
+
+def letter_changes(letter, stated):
+    """A letter's parts, and for each entry of the order from 7 a change of them to which it applies. No log needs 15."""
+    body, parts = letter[LETTER_HEAD:], ("letter size", "letter index", "stated", "body", "length")
+    true = dict(zip(parts, (nodes_of(LEAVES), INDEX, stated, body, len(letter))))
+    return true, {
+        "7 (under 20 bytes)": {"length": 19}, "8": {"letter size": nodes_of(2)}, "5": {"letter index": LEAVES},
+        "3 (stated length)": {"stated": LONGEST_RECORD + 1}, "7 (exact length)": {"length": len(letter) + 1},
+        "9": {"body": flipped(body, len(body) - 1)},
+    }
+
+
+def with_letter(make, parts):
+    """A case of a call that is given a letter, from the letter's parts and the call's own."""
+    def made(name, **given):
+        return make(name, letter=letter_from(*(given.pop(part) for part in parts)), **given)
+    return made
+
+
+def calls():
+    """Each call: what makes a case of it, inputs that are done, and for each entry of its order a change to which it applies."""
+    size, nodes = small_log(LEAVES)
+    record, longer, short = logged(INDEX), counted(8, LONGEST_RECORD + 1), {"nodes": nodes[:-1]}
+    letter, no_size = letter_of(size, INDEX, record, nodes), {"size": 2}
+    parts, from_7 = letter_changes(letter, len(record))
+    room = {"nodes": nodes + bytes(NODE * (nodes_of(LEAVES + 1) - size) - 1)}
+    yield "append", append_case, {"size": size, "record": record, "nodes": room["nodes"] + b"\0"}, {
+        "1": no_size, "2": {"size": nodes_of(MOST_LEAVES)}, "3": {"record": longer}, "4": room}
+    yield "root", root_case, {"size": size, "nodes": nodes}, {"1": no_size, "10": {"size": 0}, "4": short}
+    yield "letter_write", write_case, {"size": size, "index": INDEX, "record": record, "nodes": nodes, "room": len(letter)}, {
+        "1": no_size, "5": {"index": LEAVES}, "3": {"record": longer}, "4": short, "13": {"record": b"other"}, "6": {"room": len(letter) - 1}}
+    yield "letter_check", with_letter(check_case, parts), {"size": size, "top": root(size, nodes).digest, **parts}, {
+        "1": no_size, "12": {"top": root(size, nodes).digest[:-1]}, **from_7}
+    yield "find", with_letter(find_case, parts), {"size": size, "nodes": nodes, "record": record, "rooms": (PAIR, PAIR), **parts}, {
+        "1": no_size, "10": {"size": 0}, "4": short, **from_7, "3 (record)": {"record": longer}, "13": {"record": b"other"},
+        "14": {"nodes": flipped(nodes, NODE)}, "6 (first buffer)": {"rooms": (PAIR - 1, PAIR)}, "6 (second buffer)": {"rooms": (PAIR, PAIR - 1)}}
+
+
+def pairs():
+    """A case for every two entries of an order whose changes are of different parts: the entry that comes first, and the case."""
+    for call, make, true, changes in calls():
+        for one, other in itertools.combinations([entry for entry in ORDERS[call] if entry in changes], 2):
+            if not set(changes[one]) & set(changes[other]):
+                yield one, make(f"{call}, {one} and {other}", **{**true, **changes[one], **changes[other]})
+
+
+def singles():
+    """Each entry of an order alone, and the case."""
+    for call, make, true, changes in calls():
+        for entry, change in changes.items():
+            yield entry, make(f"{call}, {entry}", **{**true, **change})
+
+
+def order_cases():
+    """Every two refusals at once."""
+    return [case for _, case in pairs()]
+
+
+def check_orders():
+    """Each entry applies alone, and of two the one that comes first is answered."""
+    tried = [*singles(), *pairs()]
+    wrong = [case for entry, case in tried if case["answer"]["number"] != int(entry.split()[0])]
+    for case in wrong:
+        print(f"orders: {case['name']}: answered {case['answer']['number']}")
+    print(f"orders: {len(tried) - len(wrong)} of {len(tried)} refusals, alone and by twos, are the first in the order")
+    return not wrong
