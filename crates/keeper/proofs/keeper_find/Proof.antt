@@ -17,7 +17,7 @@ returns-2 c =
     let b = c .before .before .before .before .before .before .before in
     let a = b .before .before .before .before .before .before .before .before .args in
     find-done (a .size) (a .nodes .now) (a .rec .now) (a .letter .now) (a .first .now) (a .second .now) (a .found .now)
-    (b .find .result) _ _ (b .find .ensures) _ (c .number-of .ensures) (omega arith)
+    (b .find .result) _ _ (b .find .ensures) _ (c .finding-number .ensures) (omega arith)
 
 pub keeper-find-spec : {M : Type 1} → statement M
 keeper-find-spec =
