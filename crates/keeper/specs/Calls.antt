@@ -13,7 +13,7 @@ use Rattle.log.specs.Outcome.{AppendOutcome, appendOrder, appendDone, rootOrder
 
 -- ---- Sizes, positions, counts
 
--- 01's number, and what stands behind the result pointer at return
+-- the number, and what stands behind the result pointer at return
 abbrev pub answered : ℕ → ℕ → Answer
 answered number value = record { number = number; value = value }
 
@@ -23,7 +23,7 @@ over old a = elim (eqb (a .number) 0) [ true ↦ a | false ↦ answered (a .numb
 
 -- ---- Append
 
--- 01's number, the new size and the hash count behind their pointers, and the nodes, at return
+-- the number, the new size and the hash count behind their pointers, and the nodes, at return
 abbrev pub appendLeft : ℕ → ℕ → ℕ → List ℕ → AppendOutcome
 appendLeft number size hashes bs = record { number = number; size = size; hashes = hashes; bytes = bs }
 
@@ -34,7 +34,7 @@ appendCall size rec bs oldSize oldHashes =
 
 -- ---- A digest written out
 
--- 01's number, and the output buffer at return
+-- the number, and the output buffer at return
 pub record Filled : Type 0 where
   pub number : ℕ
   pub bytes : List ℕ
@@ -61,7 +61,7 @@ rootCall size bs out =
 
 -- ---- A writer
 
--- 01's number, the length behind its pointer, and the output buffer, at return
+-- the number, the length behind its pointer, and the output buffer, at return
 abbrev pub writeLeft : ℕ → ℕ → List ℕ → WriteOutcome
 writeLeft number length bs = record { number = number; length = length; bytes = bs }
 

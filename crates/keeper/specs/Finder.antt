@@ -18,7 +18,7 @@ findingNumber Same = 1
 findingNumber Records = 2
 findingNumber Pair = 3
 
--- 01's number, what is found, and the two buffers, at return: the first is for the log's input, the second for the letter's
+-- the number, what is found, and the two buffers, at return: the first is for the log's input, the second for the letter's
 pub record FindLeft : Type 0 where
   pub number : ℕ
   pub found : ℕ

@@ -17,7 +17,7 @@ letterWriteCall size index rec bs out old =
 
 -- ---- Checked
 
--- 01's number, the index, and where the record starts in the letter and how long it is, at return
+-- the number, the index, and where the record starts in the letter and how long it is, at return
 abbrev pub checkLeft : ℕ → ℕ → ℕ → ℕ → CheckOutcome
 checkLeft number index start length = record { number = number; index = index; start = start; length = length }
 

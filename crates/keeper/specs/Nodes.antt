@@ -23,7 +23,7 @@ storeInnerCall digest out old = writeCall (12 if length digest is-not 32 ∷ inn
 
 -- ---- Read
 
--- 01's number, the kind, the output buffer, and where the record starts in the bytes and how long it is, at return
+-- the number, the kind, the output buffer, and where the record starts in the bytes and how long it is, at return
 pub record ReadLeft : Type 0 where
   pub number : ℕ
   pub kind : ℕ

@@ -1,4 +1,4 @@
-// The keeper as C sees it: include/keeper.h has the same calls. Each returns 01's number, and a refusal leaves every lent byte and
+// The keeper as C sees it: include/keeper.h has the same calls. Each returns a number of RULES 2, and a refusal leaves every lent byte and
 // every result variable as it was.
 ghost use mathlib.Core.Path.{_≡_};
 ghost use Rattle.shape.specs.Sizes.{sizeAnswer, positionAnswer, countAnswer};

@@ -23,7 +23,7 @@ use Rattle.wire.proofs.Joined.{joined-length}
 use Rattle.nodes.proofs.Joined.{node-length}
 use Rattle.letter.specs.Items.{itemCount, itemsOf}
 
--- as many as 01 lists
+-- as many as RULES 9.2 lists
 pub items-counted : (n i : ℕ) → i < n → length (itemPositions n i) ≡ itemCount n i
 unfolding itemCount
 items-counted n i p = positions-length n i p

@@ -14,7 +14,7 @@ use Rattle.shape.specs.Letter.{way, fill}
 use Rattle.nodes.specs.Nodes.{nodeIn}
 use Rattle.letter.specs.Bytes.{indexIn, recordIn, itemsIn}
 
--- the number of items for index i of n leaves: one for each turn on the way to it, as many as 01 lists (`items-counted`)
+-- the number of items for index i of n leaves: one for each turn on the way to it, as many as RULES 9.2 lists (`items-counted`)
 unfoldable pub itemCount : ℕ → ℕ → ℕ
 itemCount n i = length (way n i)
 

@@ -66,7 +66,7 @@ module _ (digest : List ℕ → List ℕ) where
       (omega (arith, length-take-le 17429 l p)) p _ _)
       ∙ sym (check-number size root l)
 
-  -- 01: it reads at most 17,469 bytes, since a longer letter gets the same number
+  -- RULES 11: it reads at most 17,469 bytes, since a longer letter gets the same number
   pub front-judged : (input : List ℕ) → judged digest (take 17469 input) ≡ judged digest input
   unfolding judged
   front-judged input =

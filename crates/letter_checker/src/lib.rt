@@ -5,7 +5,7 @@ ghost use Rattle.wire.specs.Lent.{lent};
 ghost use Rattle.letter_checker.specs.Outcome.{checked, checkRefused, checkOutcome, recordPart, judged};
 use shape::Counted;
 
-// The answer of a check: 01's number, the index, and where the record lies in the letter. A refusal has 0 for these.
+// The answer of a check: the number, the index, and where the record lies in the letter. A refusal has 0 for these.
 pub struct Checked {
     pub number: u32,
     pub index: u64,

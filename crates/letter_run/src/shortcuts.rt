@@ -1,5 +1,5 @@
 // The shortcuts that lose a match: letters that pass where the size is taken from the letter, checked against the true size and against their own;
-// and 01's whole letter.
+// and the shortest letter.
 use crate::logs::log_of;
 use crate::logs::root_of;
 use crate::logs::show_checked;
@@ -61,7 +61,7 @@ fn show_two_as_one(size: u64, nodes: &[u8; 1216]) {
     );
 }
 
-// 01's whole letter, for one empty record: its root is the digest of empty input.
+// The shortest letter, for one empty record: its root is the digest of empty input.
 fn show_whole() {
     let mut letter = [0u8; 20];
     letter[7] = 1;

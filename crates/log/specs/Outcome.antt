@@ -14,7 +14,7 @@ use Rattle.log.specs.declared.Rooted.{Rooted}
 
 -- ---- Append
 
--- 01's number, the size, the hash count, and the buffer at return
+-- the number, the size, the hash count, and the buffer at return
 pub record AppendOutcome : Type 0 where
   pub number : ℕ
   pub size : ℕ
@@ -53,7 +53,7 @@ appendOutcome digest size rec bs = verdict (appendRefused size bs) (appendOrder 
 
 -- ---- Root
 
--- 01's number and the digest
+-- the number and the root
 pub record RootOutcome : Type 0 where
   pub number : ℕ
   pub root : List ℕ

@@ -9,14 +9,14 @@ mod new;
 use digest::Digest;
 use shape::Counted;
 
-// The answer of an append: 01's number, the size and the hash count.
+// The answer of an append: the number, the size and the hash count.
 pub struct Appended {
     pub number: u32,
     pub size: u64,
     pub hashes: u64,
 }
 
-// The answer of a root: 01's number and the digest.
+// The answer of a root: the number and the root.
 pub struct Rooted {
     pub number: u32,
     pub root: Digest,

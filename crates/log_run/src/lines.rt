@@ -14,14 +14,14 @@ pub(crate) fn show_digest(label: &[u8], d: Digest) {
     end_line();
 }
 
-// A label, 01's number, the size and the hash count, and the end of the line.
+// A label, the number, the size and the hash count, and the end of the line.
 pub(crate) fn show_appended(label: &[u8], a: Appended) {
     let numbers = [a.number as u64, a.size, a.hashes];
     say_numbers(label, &numbers);
     end_line();
 }
 
-// A label, 01's number and the root.
+// A label, the number and the root.
 pub(crate) fn show_rooted(label: &[u8], r: Rooted) {
     say_number(label, r.number as u64);
     let d = r.root;

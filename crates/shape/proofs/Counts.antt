@@ -1,4 +1,4 @@
--- The leaf count of a size: it is what 01 says, for every number.
+-- The leaf count of a size: it is what RULES 6.3 says, for every number.
 use mathlib.Core.Path.{_≡_, refl, sym, ap, _∙_}
 use mathlib.Core.Logic.{_≢_, _↔_, _⊎_, inl, inr}
 use Prim.Native.Nat.{ℕ, zero, suc, _^_, _≤_}
@@ -61,7 +61,7 @@ count-done s n e = elim (count-cases s) [
   | inr (f, g) ↦ done-refused n 0 (sym e ∙ f)
 ]
 
--- 01: 1 exactly when no leaf count up to 2^32 has this size
+-- RULES 6.3: 1 exactly when no leaf count up to 2^32 has this size
 pub count-none : (s : ℕ) → (countAnswer s ≡ refused 1) ↔ ((n : ℕ) → n ≤ 2 ^ 32 → sizeOf n ≢ s)
 count-none s = (
   λ e n p q. done-refused n 0 (sym (count-size n p) ∙ ap countAnswer q ∙ e),

@@ -51,7 +51,7 @@ module _ (digest : List ℕ → List ℕ) where
       rw (← append-assoc xs (y ∷ []) ys, b .1, ← one-more xs y, c .1, append-assoc)
       (getD-at (nodes digest xs) y (c .0 ++ b .0) [] (sizeOf (length xs)) (nodes-length digest xs))
 
-  -- 01: leaf i stands at 2i minus the ones in i
+  -- RULES 6.2: leaf i stands at 2i minus the ones in i
   pub leaf-at : (ds : List (List ℕ)) (i : ℕ) → i < length ds → getD (nodes digest ds) (sizeOf i) [] ≡ getD ds i []
   leaf-at ds i p =
       let n : length (take i ds) ≡ i = length-take-le i ds (omega arith) in

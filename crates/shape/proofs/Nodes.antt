@@ -105,7 +105,7 @@ module _ (digest : List ℕ → List ℕ) where
         length-in k (drop (2 ^ k) ds) b,
       ) (sym (ap sizeOf (sym e) ∙ size-peak k (length (drop (2 ^ k) ds)) b)))
 
-  -- 01: the size of n leaves is 2n minus the ones in n
+  -- RULES 6.1: the size of n leaves is 2n minus the ones in n
   pub nodes-length : (ds : List (List ℕ)) → length (nodes digest ds) ≡ sizeOf (length ds)
   unfolding nodes
   nodes-length ds = length-in (suc (heightOf (length ds))) ds (height-above (length ds))

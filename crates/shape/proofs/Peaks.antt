@@ -58,7 +58,7 @@ ones-in (suc k) n s p =
     rw (peaks-take k n s (omega arith))
     (ap suc (ones-in k (n - 2 ^ k) (behind k s) b) ∙ sym (ap ones (sym e) ∙ ones-top k (n - 2 ^ k) b)))
 
--- 01: one peak for each one-bit of n
+-- RULES 6.4: one peak for each one-bit of n
 pub peaks-ones : (n : ℕ) → length (peaks n) ≡ ones n
 unfolding peaks
 peaks-ones n = ones-in (suc (heightOf n)) n 0 (height-above n)

@@ -166,7 +166,7 @@ module _ (digest : List ℕ → List ℕ) (node : ℕ → List ℕ) where
         left-read h s ds l d,
       ))))
 
-  -- the items from any buffer that holds the log's nodes: the folds at 01's positions, in 01's order
+  -- the items from any buffer that holds the log's nodes: the folds at the positions of RULES 9.2, in its order
   pub items-read : (ds : List (List ℕ)) (i : ℕ) → i < length ds → Holds node 0 (nodes digest ds)
       → map (fold digest node) (itemPositions (length ds) i) ≡ items digest (tree ds) (way (length ds) i)
   unfolding itemPositions tree way nodes

@@ -48,7 +48,7 @@ size-peak k c p =
     ap (λ (x : ℕ). sizeOf (x + c)) (sym (one-mul (2 ^ k))) ∙ size-add k 1 c p
     ∙ ap (λ (x : ℕ). sizeOf x + sizeOf c) (one-mul (2 ^ k)) ∙ ap (λ (x : ℕ). x + sizeOf c) (size-power k)
 
--- 01: new size minus old size is 1 + trailing ones, the hash count
+-- RULES 7.3: new size minus old size is 1 + trailing ones, the hash count
 pub size-suc : (n : ℕ) → sizeOf (suc n) ≡ sizeOf n + hashCount n
 size-suc n = omega (arith, size-ones n, size-ones (suc n), carry n)
 

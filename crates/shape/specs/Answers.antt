@@ -1,4 +1,4 @@
--- What the calls of `src/lib.rt` answer: the number of 01's table, and the value beside it.
+-- What the calls of `src/lib.rt` answer: the number of the table of RULES 2, and the value beside it.
 use Prim.Native.Nat.{ℕ}
 use Rattle.shape.specs.declared.Sized.{Sized}
 use Rattle.shape.specs.declared.Sized.the-variants.{Size, TooMany}

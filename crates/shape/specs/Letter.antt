@@ -43,7 +43,7 @@ fill (right ∷ w) d xs = fork (tip (getD xs (length w) [])) (fill w d (take (le
 fill (past ∷ w) d xs = fork (tip (getD xs 0 [])) (fill w d (drop 1 xs))
 
 module _ (digest : List ℕ → List ℕ) where
-  -- the items along a way: a peak that is passed comes first, any other side last. In a log's tree they are 01's, in its order (`items-read`)
+  -- the items along a way: a peak that is passed comes first, any other side last. In a log's tree they are those of RULES 9.2, in its order (`items-read`)
   abbrev pub items : Tree → List Turn → List (List ℕ)
   items (tip d) w = []
   items (fork l r) [] = []

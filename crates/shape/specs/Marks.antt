@@ -1,4 +1,4 @@
--- The marked examples of 01, M1 to M16, in one table, and what each says of the definitions (`marked-says`).
+-- The marked examples of the rules, M1 to M16, in one table, and what each says of the definitions (`marked-says`).
 use mathlib.Core.Path.{_≡_}
 use mathlib.Core.List.{List, [], _∷_}
 use Prim.Native.Nat.{ℕ}

@@ -4,7 +4,7 @@ use shape::Counted;
 use shape::Placed;
 use shape::Sized;
 
-// The line of a call: its label, what it is given, 01's number and the value.
+// The line of a call: its label, what it is given, the number and the value.
 fn show(label: &[u8], given: u64, number: u64, value: u64) {
     io::write_all(STDOUT_FILENO, label);
     io::print_decimal(STDOUT_FILENO, given);

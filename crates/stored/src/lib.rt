@@ -120,7 +120,7 @@ fn refusal(node: Node) -> Reading
     }
 }
 
-// 01's number of what the reader answers: 0 for done.
+// The number of what the reader answers: 0 for done.
 pub fn number_of(reading: Reading) -> u32
     ensures { λ r. ⌜ r ≡ readOff reading .number ⌝ }
 {

@@ -1,4 +1,4 @@
-// Stored nodes at 01's edges, written and read, to be compared with the second program's.
+// Stored nodes at the edges, written and read, to be compared with the second program's.
 ghost use mathlib.Core.Path.{_≡_};
 ghost use Rattle.stored.specs.Read.{readOutcome};
 use runs::given;
@@ -141,7 +141,7 @@ fn try_rooms(bytes: &[u8], out: &mut [u8]) {
     try_inner(digest, out, 32);
 }
 
-// Nodes of each flag around the lengths that 01 names, with a stated length that is right, one too small, one too large, or above 16,384.
+// Nodes of each flag around the lengths that RULES 8 names, with a stated length that is right, one too small, one too large, or above 16,384.
 fn try_nodes() {
     try_node(0, 0, 0);
     try_node(0, 0, 32);

@@ -10,7 +10,7 @@ ghost use Rattle.wire.specs.Slices.{zeros, part, written, differ};
 // The most bytes of a record.
 pub const LONGEST_RECORD: usize = 16384;
 
-// What a writer of one thing answers: 01's number, and the length of what it wrote, 0 for a refusal.
+// What a writer of one thing answers: the number, and the length of what it wrote, 0 for a refusal.
 pub struct Written {
     pub number: u32,
     pub length: usize,
