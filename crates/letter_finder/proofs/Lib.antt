@@ -6,5 +6,3 @@ pub mod Turning
 pub mod Whole
 pub mod Formed
 pub mod Breaking
-pub mod Agreed
-pub mod Collides

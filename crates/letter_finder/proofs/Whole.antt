@@ -23,7 +23,7 @@ use Rattle.letter_finder.specs.declared.walk.Trail.{Trail}
 use Rattle.letter_finder.specs.Outcome.{ownRoot}
 use Rattle.difference.specs.Inputs.{told}
 use Rattle.letter_finder.specs.Steps.{lettered, Walkable, Walked}
-use Rattle.letter_finder.proofs.Agreed.{agreed}
+use Rattle.shape.proofs.Beside.{agreed}
 
 -- no sum wraps
 pub whole-room : (h n i : ℕ) → h ≡ heightOf n → i < n → n ≤ 2 ^ 32 → Walkable h n i 0 0
@@ -65,4 +65,4 @@ whole-sound {bs} {n} {i} {theirs} {items} {w} k p e z =
     let a : told (w .difference) ≡ agree = rw z in
     agreed digestOf digest-length (nodeIn bs) (node-length bs) (digestOf theirs) (digest-length theirs) n i xs p
     (digests-length 0 (length (way n i)) items) (digests-each 0 (length (way n i)) items)
-    (sym (k .first) ∙ a) (sym (k .log) ∙ e ∙ k .letter)
+    (sym (k .log) ∙ e ∙ k .letter) (sym (k .first) ∙ a)

@@ -3,4 +3,5 @@ pub mod Kept
 pub mod Ours
 pub mod Checked
 pub mod Found
+pub mod Named
 pub mod Promise

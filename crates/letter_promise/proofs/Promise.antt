@@ -12,10 +12,11 @@ use Rattle.log.specs.Appends.{run, empty}
 use Rattle.log.proofs.Grown.{begins-hold, begins-long, root-of-log}
 use Rattle.log.proofs.Appends.{run-sound}
 use Rattle.letter_promise.specs.Promise.{Log, logSize, recordAt, ours, EveryLetterAccepted, EveryAcceptedEnds, EveryOursSame, EverySameOurs}
-use Rattle.letter_promise.specs.Promise.{OfEveryLog, LetterAccepted, AcceptedIsOurs, OursIsSame, SameIsOurs}
+use Rattle.letter_promise.specs.Promise.{OfEveryLog, LetterAccepted, AcceptedIsOurs, OursIsSame, SameIsOurs, FoundNamed}
 use Rattle.letter_promise.proofs.Kept.{Kept}
 use Rattle.letter_promise.proofs.Ours.{letter-own}
 use Rattle.letter_promise.proofs.Checked.{letters-accepted}
+use Rattle.letter_promise.proofs.Named.{named-found}
 use Rattle.letter_promise.proofs.Found.{accepted-ends, ours-same, same-ours}
 
 -- a buffer that begins with a log's nodes holds each at its place
@@ -44,6 +45,10 @@ ours-is-same = of-every-log (EveryOursSame digestOf) (λ rs bs k. ours-same k)
 
 pub same-is-ours : SameIsOurs
 same-is-ours = of-every-log (EverySameOurs digestOf) (λ rs bs k. same-ours k)
+
+-- what the finder names does collide, whatever it was given
+pub found-named : FoundNamed
+found-named size bs rec letter first second = named-found digestOf digest-length size bs rec letter first second
 
 -- a log has one letter for an index, whatever stands in a buffer beyond its nodes
 pub one-letter : (rs : List (List ℕ)) (bs cs : List ℕ) → Log rs → Begins digestOf bs rs → Begins digestOf cs rs → (i : ℕ) → i < length rs

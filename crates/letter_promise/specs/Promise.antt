@@ -3,7 +3,7 @@
 -- at the same place in the tree.
 -- The statements stand at the end, for Blake3; above them is what they say, for any digest function. They speak of the outcomes that the contracts of
 -- the public calls cite, so they hold of the code.
--- Nothing is claimed of nodes that are not the log's, beyond the refusals: of those the finder's own outcome alone speaks.
+-- Of nodes that are not the log's, or another record than its own, one thing is claimed: what the finder names does collide (`found-named`).
 use mathlib.Core.Logic.{_≢_}
 use mathlib.Core.Path.{_≡_}
 use mathlib.Core.List.{List, [], _++_, map}
@@ -19,12 +19,12 @@ use Rattle.shape.specs.Folded.{tree}
 use Rattle.nodes.specs.Nodes.{Begins}
 use Rattle.log.specs.Appends.{Short}
 use Rattle.log.specs.Outcome.{rootOutcome}
-use Rattle.letter.specs.Bytes.{indexIn}
+use Rattle.letter.specs.Bytes.{indexIn, recordIn}
 use Rattle.letter.specs.Items.{letterTree}
 use Rattle.letter_writer.specs.Outcome.{ourLetter, writeOutcome}
 use Rattle.letter_checker.specs.Outcome.{checkOutcome, recordBy}
 use Rattle.difference.specs.declared.Finding.the-variants.{Same, Records, Pair}
-use Rattle.difference.specs.Outcome.{FindOutcome}
+use Rattle.difference.specs.Outcome.{FindOutcome, findRefused}
 use Rattle.letter_finder.specs.Outcome.{findOutcome}
 
 -- a log: any list of 1 to 2^32 records, none above 16,384 bytes
@@ -97,6 +97,22 @@ module _ (digest : List ℕ → List ℕ) (rs : List (List ℕ)) (root bs : List
       → findOutcome digest (logSize rs) bs rec letter first second .finding ≡ Same
       → letter ≡ ourLetter digest (logSize rs) (indexIn letter) rec bs
 
+-- ---- whatever nodes, record, bytes and buffers the finder is given
+
+module _ (digest : List ℕ → List ℕ) (rec letter first second : List ℕ) where
+  -- what any outcome of the finder is
+  pub data Named : FindOutcome → Type 0 where
+    -- a refusal; no byte of the buffers changed
+    named-none : (k : ℕ) → k ≢ 0 → Named (findRefused first second k)
+    -- the two records are the same; no byte of the buffers changed
+    named-same : rec ≡ recordIn letter → Named (record { number = 0; finding = Same; first = first; second = second })
+    -- the two records differ and have one digest; no byte of the buffers changed
+    named-records : rec ≢ recordIn letter → digest rec ≡ digest (recordIn letter)
+        → Named (record { number = 0; finding = Records; first = first; second = second })
+    -- the first 64 bytes of the two buffers differ and have one digest; no other byte changed
+    named-pair : (a b : List ℕ) → length a ≡ 64 → length b ≡ 64 → a ≢ b → digest a ≡ digest b
+        → Named (record { number = 0; finding = Pair; first = a ++ drop 64 first; second = b ++ drop 64 second })
+
 -- ---- the statements, for Blake3
 
 -- of every log, with its size, any buffer that begins with its nodes, and its root, which is what the log's own call answers (`root-of-log`)
@@ -117,3 +133,8 @@ OursIsSame = OfEveryLog (EveryOursSame digestOf)
 
 abbrev pub SameIsOurs : Type 0
 SameIsOurs = OfEveryLog (EverySameOurs digestOf)
+
+-- `found-named`: what the finder names does collide, whatever it was given
+abbrev pub FoundNamed : Type 0
+FoundNamed =
+    (size : ℕ) (bs rec letter first second : List ℕ) → Named digestOf rec letter first second (findOutcome digestOf size bs rec letter first second)

@@ -24,3 +24,4 @@ pub mod Positions
 pub mod Reading
 pub mod Seen
 pub mod Own
+pub mod Beside
