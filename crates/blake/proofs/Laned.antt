@@ -9,7 +9,7 @@ use Rattle.compression.specs.Build.{build}
 use Rattle.compression.proofs.Builds.{build-length, build-at, build-same, build-self}
 use Rattle.compression.specs.Compression.{compressed, wordsOf}
 use Rattle.blake.specs.Blake.{startFlag, chained, before, chunked, parented, treed}
-use Rattle.blake.specs.Lanes.{laneOf, laned, part, compressed4}
+use Rattle.blake.specs.Steps.{laneOf, laned, chunkIn, compressed4}
 use Rattle.blake.proofs.Lengths.{chained-length, chunked-length}
 use Rattle.blake.proofs.Sides.{tree-long, tree-chunk}
 
@@ -56,10 +56,10 @@ drop-take (suc i) (suc j) [] = sym (take-nil (suc j - suc i))
 drop-take (suc i) (suc j) (x ∷ xs) =
     drop-take i j xs ∙ ap (λ (k : ℕ). take k (drop i xs)) (let e : j - i ≡ suc j - suc i = omega arith in e)
 
-from-part : (bs : List ℕ) (k at : ℕ) → drop at (part bs k) ≡ take (1024 - at) (drop (1024 * k + at) bs)
+from-part : (bs : List ℕ) (k at : ℕ) → drop at (chunkIn bs k) ≡ take (1024 - at) (drop (1024 * k + at) bs)
 from-part bs k at = drop-take at 1024 (drop (1024 * k) bs) ∙ ap (take (1024 - at)) (drop-drop at (1024 * k) bs)
 
-block-in : (bs : List ℕ) (k at : ℕ) → at ≤ 960 → take 64 (drop at (part bs k)) ≡ take 64 (drop (1024 * k + at) bs)
+block-in : (bs : List ℕ) (k at : ℕ) → at ≤ 960 → take 64 (drop at (chunkIn bs k)) ≡ take 64 (drop (1024 * k + at) bs)
 block-in bs k at h = ap (take 64) (from-part bs k at) ∙ take-take 64 (1024 - at) (drop (1024 * k + at) bs) (omega arith)
 
 -- ---- Four chunks, block after block
@@ -69,7 +69,7 @@ pub record Chains4 (key : List ℕ) (flag n : ℕ) (bs cv : List ℕ) (start b :
   pub within : b ≤ 15
   pub small : start ≤ 1
   pub first : start ≡ startFlag b
-  pub words : cv ≡ laned (λ k. chained key flag (n + k) (part bs k) b)
+  pub words : cv ≡ laned (λ k. chained key flag (n + k) (chunkIn bs k) b)
 
 module _ (key : List ℕ) (flag n : ℕ) (bs : List ℕ) (size : length key ≡ 8) where
   chains4-none : {cv : List ℕ} → cv ≡ laned (λ k. key) → Chains4 key flag n bs cv 1 0
@@ -87,19 +87,19 @@ module _ (key : List ℕ) (flag n : ℕ) (bs : List ℕ) (size : length key ≡ 
         words =
             e
             ∙ ap₂ (λ (x : List ℕ) (s : ℕ). compressed4 x bs (64 * b) n (flag + s)) (g .words) (g .first)
-            ∙ compressed4-laned (λ k. chained key flag (n + k) (part bs k) b) bs (64 * b) n (flag + startFlag b)
-            (λ k. chained-length key flag (n + k) (part bs k) b size)
+            ∙ compressed4-laned (λ k. chained key flag (n + k) (chunkIn bs k) b) bs (64 * b) n (flag + startFlag b)
+            (λ k. chained-length key flag (n + k) (chunkIn bs k) b size)
             ∙ laned-same _ _
-            (λ k l. ap (λ (x : List ℕ). compressed (chained key flag (n + k) (part bs k) b) (wordsOf 16 x) (n + k) 64 (flag + startFlag b))
+            (λ k l. ap (λ (x : List ℕ). compressed (chained key flag (n + k) (chunkIn bs k) b) (wordsOf 16 x) (n + k) 64 (flag + startFlag b))
             (sym (block-in bs k (64 * b) (omega arith))));
       }
 
-  last-block : (k : ℕ) → length (part bs k) ≡ 1024
-      → compressed (chained key flag (n + k) (part bs k) 15) (wordsOf 16 (take 64 (drop (1024 * k + 960) bs))) (n + k) 64 (flag + 0 + 2)
-      ≡ chunked key flag 0 (n + k) (part bs k)
+  last-block : (k : ℕ) → length (chunkIn bs k) ≡ 1024
+      → compressed (chained key flag (n + k) (chunkIn bs k) 15) (wordsOf 16 (take 64 (drop (1024 * k + 960) bs))) (n + k) 64 (flag + 0 + 2)
+      ≡ chunked key flag 0 (n + k) (chunkIn bs k)
   unfolding chunked before startFlag
   last-block k e =
-      let x = part bs k in
+      let x = chunkIn bs k in
       let q : 15 ≡ (length x - 1) / 64 = omega arith in
       let r : 64 ≡ length x - 64 * ((length x - 1) / 64) = omega arith in
       let w : take 64 (drop (1024 * k + 960) bs) ≡ drop (64 * 15) x = sym (from-part bs k 960) in
@@ -108,15 +108,15 @@ module _ (key : List ℕ) (flag n : ℕ) (bs : List ℕ) (size : length key ≡ 
       ∙ ap₂ (λ (j len : ℕ). compressed (chained key flag (n + k) x j) (wordsOf 16 (drop (64 * j) x)) (n + k) len (flag + startFlag j + 2 + 0)) q r
 
   chains4-all : {cv r : List ℕ} {start b : ℕ} → length bs ≡ 4096 → 15 ≤ b → r ≡ compressed4 cv bs 960 n (flag + start + 2)
-      → Chains4 key flag n bs cv start b → r ≡ laned (λ k. chunked key flag 0 (n + k) (part bs k))
+      → Chains4 key flag n bs cv start b → r ≡ laned (λ k. chunked key flag 0 (n + k) (chunkIn bs k))
   unfolding startFlag
   chains4-all {cv} {r} {start} {b} len done e g =
       let z : b ≡ 15 = omega (arith, g .within) in
       e
       ∙ ap₂ (λ (x : List ℕ) (s : ℕ). compressed4 x bs 960 n (flag + s + 2))
-      (g .words ∙ ap (λ (j : ℕ). laned (λ k. chained key flag (n + k) (part bs k) j)) z) (g .first ∙ ap startFlag z)
-      ∙ compressed4-laned (λ k. chained key flag (n + k) (part bs k) 15) bs 960 n (flag + 0 + 2)
-      (λ k. chained-length key flag (n + k) (part bs k) 15 size)
+      (g .words ∙ ap (λ (j : ℕ). laned (λ k. chained key flag (n + k) (chunkIn bs k) j)) z) (g .first ∙ ap startFlag z)
+      ∙ compressed4-laned (λ k. chained key flag (n + k) (chunkIn bs k) 15) bs 960 n (flag + 0 + 2)
+      (λ k. chained-length key flag (n + k) (chunkIn bs k) 15 size)
       ∙ laned-same _ _ (λ k l. last-block k (length-take-le 1024 (drop (1024 * k) bs) (omega (arith, length-drop (1024 * k) bs))))
 
 -- the same words in each lane: lane 0 has them
@@ -128,10 +128,10 @@ module _ (cv key : List ℕ) (flag n : ℕ) (bs : List ℕ) (size : length key �
   chunks-none = chains4-none (laneOf cv 0) flag n bs (lane-length cv 0) (e ∙ laned-same _ _ (λ k l. sym spread-key))
 
   pub chunks-all : {now r : List ℕ} {start b : ℕ} → length bs ≡ 4096 → 15 ≤ b → r ≡ compressed4 now bs 960 n (flag + start + 2)
-      → Chains4 (laneOf cv 0) flag n bs now start b → r ≡ laned (λ k. chunked key flag 0 (n + k) (part bs k))
+      → Chains4 (laneOf cv 0) flag n bs now start b → r ≡ laned (λ k. chunked key flag 0 (n + k) (chunkIn bs k))
   chunks-all len done d g =
       chains4-all (laneOf cv 0) flag n bs (lane-length cv 0) len done d g
-      ∙ ap (λ (x : List ℕ). laned (λ k. chunked x flag 0 (n + k) (part bs k))) spread-key
+      ∙ ap (λ (x : List ℕ). laned (λ k. chunked x flag 0 (n + k) (chunkIn bs k))) spread-key
 
 pub chunks-more : (cv : List ℕ) {now next : List ℕ} {flag n : ℕ} {bs : List ℕ} {start b : ℕ} → b < 15
     → next ≡ compressed4 now bs (64 * b) n (flag + start)
@@ -150,31 +150,31 @@ module _ (key : List ℕ) (flag n : ℕ) (bs : List ℕ) where
 
   four : (root : ℕ) → length bs ≡ 4096
       → parented key flag root
-      (parented key flag 0 (chunked key flag 0 (n + 0) (part bs 0)) (chunked key flag 0 (n + 1) (part bs 1)))
-      (parented key flag 0 (chunked key flag 0 (n + 2) (part bs 2)) (chunked key flag 0 (n + 3) (part bs 3)))
+      (parented key flag 0 (chunked key flag 0 (n + 0) (chunkIn bs 0)) (chunked key flag 0 (n + 1) (chunkIn bs 1)))
+      (parented key flag 0 (chunked key flag 0 (n + 2) (chunkIn bs 2)) (chunked key flag 0 (n + 3) (chunkIn bs 3)))
       ≡ treed 2 key flag root n bs
   four root e =
       let a : n + 0 ≡ n = omega arith in
       let b : n + 2 + 1 ≡ n + 3 = omega arith in
-      let p0 : take 1024 (take 2048 bs) ≡ part bs 0 = take-take 1024 2048 bs (omega arith) in
-      let p1 : drop 1024 (take 2048 bs) ≡ part bs 1 = drop-take 1024 2048 bs in
-      let p3 : part bs 3 ≡ drop 3072 bs = take-all 1024 (drop 3072 bs) (omega (arith, length-drop 3072 bs)) in
+      let p0 : take 1024 (take 2048 bs) ≡ chunkIn bs 0 = take-take 1024 2048 bs (omega arith) in
+      let p1 : drop 1024 (take 2048 bs) ≡ chunkIn bs 1 = drop-take 1024 2048 bs in
+      let p3 : chunkIn bs 3 ≡ drop 3072 bs = take-all 1024 (drop 3072 bs) (omega (arith, length-drop 3072 bs)) in
       let p3' : drop 1024 (drop 2048 bs) ≡ drop 3072 bs = drop-drop 1024 2048 bs in
       let left = two 0 n (take 2048 bs) (length-take-le 2048 bs (omega arith)) in
       let right = two 0 (n + 2) (drop 2048 bs) (length-drop 2048 bs ∙ ap (λ (x : ℕ). x - 2048) e) in
       ap₂ (parented key flag root)
       (ap₂ (parented key flag 0) (ap₂ (chunked key flag 0) a (sym p0)) (ap (chunked key flag 0 (n + 1)) (sym p1)) ∙ left)
-      (ap (parented key flag 0 (chunked key flag 0 (n + 2) (part bs 2))) (ap₂ (chunked key flag 0) (sym b) (p3 ∙ sym p3')) ∙ right)
+      (ap (parented key flag 0 (chunked key flag 0 (n + 2) (chunkIn bs 2))) (ap₂ (chunked key flag 0) (sym b) (p3 ∙ sym p3')) ∙ right)
       ∙ tree-long key flag root n bs 2 (λ h. let z : 2 ≡ 0 = h in omega arith) (omega arith)
 
-  pub quad-from : (root : ℕ) {v a b r l0 l1 l2 l3 : List ℕ} → length bs ≡ 4096 → v ≡ laned (λ k. chunked key flag 0 (n + k) (part bs k))
+  pub quad-from : (root : ℕ) {v a b r l0 l1 l2 l3 : List ℕ} → length bs ≡ 4096 → v ≡ laned (λ k. chunked key flag 0 (n + k) (chunkIn bs k))
       → l0 ≡ laneOf v 0 → l1 ≡ laneOf v 1 → l2 ≡ laneOf v 2 → l3 ≡ laneOf v 3
       → a ≡ parented key flag 0 l0 l1 → b ≡ parented key flag 0 l2 l3 → r ≡ parented key flag root a b
       → r ≡ treed 2 key flag root n bs
   quad-from root {v} e w e0 e1 e2 e3 ea eb er =
-      let is : (k : ℕ) → k < 4 → laneOf v k ≡ chunked key flag 0 (n + k) (part bs k) =
+      let is : (k : ℕ) → k < 4 → laneOf v k ≡ chunked key flag 0 (n + k) (chunkIn bs k) =
       λ k l. ap (λ (x : List ℕ). laneOf x k) w
-      ∙ lane-laned (λ j. chunked key flag 0 (n + j) (part bs j)) k l (chunked-length key flag 0 (n + k) (part bs k)) in
+      ∙ lane-laned (λ j. chunked key flag 0 (n + j) (chunkIn bs j)) k l (chunked-length key flag 0 (n + k) (chunkIn bs k)) in
       er
       ∙ ap₂ (parented key flag root)
       (ea ∙ ap₂ (parented key flag 0) (e0 ∙ is 0 (omega arith)) (e1 ∙ is 1 (omega arith)))

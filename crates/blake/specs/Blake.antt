@@ -1,10 +1,10 @@
 -- BLAKE3 with 32 bytes of output, in the order of its public specification. Words are numbers below 2 ^ 32, bytes below 256.
-use mathlib.Core.List.{List, [], _∷_, _++_}
+use mathlib.Core.List.{List, _++_}
 use mathlib.Core.Bool.{true, false}
-use Prim.Native.Nat.{ℕ, zero, suc, _+_, _-_, _*_, _/_, _%_, _^_}
-use lib.ListN.{length, getD, take, drop, set}
+use Prim.Native.Nat.{ℕ, zero, suc, _+_, _-_, _*_, _/_, _^_}
+use lib.ListN.{length, take, drop}
 use lib.Dec.{leb}
-use Rattle.compression.specs.Compression.{begun, byteOf, bytesOf, columned, compressed, diagonaled, halved, mixed, mixedAt, order, permuted, rounded, rounds, starting, turnRight, wordAt, wordsOf}
+use Rattle.compression.specs.Compression.{bytesOf, compressed, starting, wordsOf}
 
 -- the flags CHUNK_START, CHUNK_END, PARENT and ROOT
 abbrev pub chunkStart : ℕ

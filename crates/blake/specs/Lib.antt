@@ -1,5 +1,4 @@
 -- What BLAKE3 is, and what the code's own steps are called.
 pub mod Blake
 pub mod Rule
-pub mod Lanes
-pub mod Room
+pub mod Steps

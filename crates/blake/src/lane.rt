@@ -3,7 +3,7 @@ ghost use mathlib.Core.Path.{_≡_};
 ghost use Prim.Native.Nat.{_+_, _^_, _<_, _≤_};
 ghost use lib.ListN.{length};
 ghost use Rattle.blake.specs.Blake.{chunked};
-ghost use Rattle.blake.specs.Lanes.{laneOf, laned, part, compressed4};
+ghost use Rattle.blake.specs.Steps.{laneOf, laned, chunkIn, compressed4};
 use crate::flags::CHUNK_END;
 use crate::flags::CHUNK_START;
 use compression::compress::compress_lane;
@@ -52,7 +52,7 @@ fn spread(key: [u32; 8]) -> [u32; 32]
 // The chaining words of four whole chunks, the first of number n.
 pub(crate) fn chunk4(key: [u32; 8], flag: u32, n: u64, bytes: &[u8]) -> [u32; 32]
     requires { ⌜ (flag ≤ 16) × (length (now bytes) ≡ 4096) × (n + 4 ≤ 2 ^ 54) ⌝ }
-    ensures { λ r. ⌜ r ≡ laned (λ k. chunked key flag 0 (n + k) (part (now (bytes .entry)) k)) ⌝ }
+    ensures { λ r. ⌜ r ≡ laned (λ k. chunked key flag 0 (n + k) (chunkIn (now (bytes .entry)) k)) ⌝ }
 {
     let mut cv = spread(key);
     let mut start = CHUNK_START;

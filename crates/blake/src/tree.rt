@@ -4,7 +4,7 @@ ghost use mathlib.Core.List.{_++_};
 ghost use Prim.Native.Nat.{_+_, _*_, _^_, _<_, _≤_};
 ghost use lib.ListN.{length};
 ghost use Rattle.blake.specs.Blake.{parented, treed, digested};
-ghost use Rattle.blake.specs.Room.{Room};
+ghost use Rattle.blake.specs.Steps.{Room};
 use crate::chunk::chunk;
 use crate::flags::ONLY_BLOCK;
 use crate::flags::PARENT;
@@ -67,7 +67,7 @@ fn tree(h: u32, key: [u32; 8], flag: u32, root: u32, n: u64, bytes: &[u8]) -> [u
     parent(key, flag, root, l, r)
 }
 
-// The least height whose tree holds len bytes.
+// A height whose tree holds len bytes.
 fn height(len: usize) -> u32
     ensures { λ r. ⌜ (r ≤ 54) × (len ≤ 1024 * 2 ^ r) ⌝ }
 {

@@ -1,8 +1,5 @@
--- Laws.
+-- Laws of lists by their rule, of loops that fill one, of turned words and of blocks.
 pub mod Builds
 pub mod Fill
-pub mod Turns
-pub mod Permutation
-pub mod Rounds
-pub mod Quarters
+mod Turns
 pub mod Blocks

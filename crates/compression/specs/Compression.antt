@@ -1,7 +1,7 @@
--- BLAKE3 with 32 bytes of output, in the order of its public specification. Words are numbers below 2 ^ 32, bytes below 256.
+-- BLAKE3's compression function, and words as bytes, in the order of its public specification. Words are numbers below 2 ^ 32, bytes below 256.
 use mathlib.Core.List.{List, [], _∷_, _++_}
 use Prim.Native.Nat.{ℕ, zero, suc, _+_, _-_, _*_, _/_, _%_, _^_}
-use lib.ListN.{length, getD, take, drop, set}
+use lib.ListN.{getD, take, set}
 use lib.Bits.{bitXor}
 use Rattle.compression.specs.Build.{build}
 
@@ -65,7 +65,7 @@ rounded s m = diagonaled (columned s m) m
 unfoldable pub permuted : List ℕ → List ℕ
 permuted m = build 16 (λ i. getD m (getD order i 0) 0)
 
--- n rounds, the message permuted after each
+-- n rounds, each but the first with the message permuted once more
 unfoldable pub rounds : ℕ → List ℕ → List ℕ → List ℕ
 rounds zero s m = s
 rounds (suc n) s m = rounds n (rounded s m) (permuted m)

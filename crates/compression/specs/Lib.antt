@@ -1,3 +1,3 @@
--- The compression.
+-- Lists by their rule, and the compression function.
 pub mod Build
 pub mod Compression

@@ -1,5 +1,5 @@
 -- Laws of two inputs, of two lists of them, and of the answer.
 pub mod Differences
-pub mod Lists
+mod Lists
 pub mod Settled
 pub mod Only

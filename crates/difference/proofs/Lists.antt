@@ -4,7 +4,7 @@ use mathlib.Core.List.{List, _∷_, _++_}
 use Prim.Native.Nat.{ℕ, suc, _+_, _-_, _*_, _^_, _≤_, _<_}
 use native.Mathlib.Omega.{arith}
 use lib.ListN.{length, length-append}
-use Rattle.wire.specs.Slices.{part, splice, written, differ, rowsFrom}
+use Rattle.wire.specs.Slices.{part, written, differ, rowsFrom}
 use Rattle.wire.proofs.Splices.{written-fits, written-short, written-next}
 use Rattle.shape.specs.Difference.{Diff, agree, difference}
 use Rattle.difference.specs.declared.first.Input.{Input}

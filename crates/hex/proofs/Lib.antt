@@ -1,2 +1,2 @@
 -- Laws of digits.
-pub mod More
+mod More

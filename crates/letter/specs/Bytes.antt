@@ -1,6 +1,6 @@
 -- A letter as bytes: how it is put together, and what stands where in it.
-use mathlib.Core.List.{List, [], _∷_, _++_}
-use Prim.Native.Nat.{ℕ, zero, suc, _+_}
+use mathlib.Core.List.{List, _++_}
+use Prim.Native.Nat.{ℕ, _+_}
 use lib.ListN.{length}
 use Rattle.wire.specs.Numbers.{be, number}
 use Rattle.wire.specs.Slices.{part, joined, rowsFrom}

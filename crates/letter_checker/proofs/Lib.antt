@@ -1,6 +1,6 @@
 -- What an accepted letter is, what two of them show, that the statement leaves one answer, and that the panel's program reads enough.
 pub mod Accepted
-pub mod Answers
+mod Answers
 pub mod Two
 pub mod Only
 pub mod Panel

@@ -1,8 +1,6 @@
 -- The laws of the finder.
 pub mod Stages
-pub mod Inputs
-pub mod Forks
-pub mod Turning
-pub mod Whole
-pub mod Formed
-pub mod Breaking
+mod Inputs
+mod Forks
+mod Turning
+mod Formed

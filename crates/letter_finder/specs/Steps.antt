@@ -1,8 +1,8 @@
--- What the finder's own steps are called: a difference, a fork above a walk, what a walk asks and finds, for any nodes and any items.
+-- What the finder's own steps are called, which no public contract cites: a fork above a walk, what a walk asks and finds, for any nodes and items.
 use mathlib.Core.Path.{_≡_}
 use mathlib.Core.Bool.{true, false}
 use mathlib.Core.List.{List, [], _∷_, _++_}
-use Prim.Native.Nat.{ℕ, zero, suc, _+_, _-_, _*_, _^_, _≤_, _<_}
+use Prim.Native.Nat.{ℕ, suc, _+_, _-_, _*_, _^_, _≤_, _<_}
 use lib.Dec.{eqb}
 use lib.ListN.{length}
 use Rattle.digest.specs.Digest.{digestOf}
@@ -12,14 +12,13 @@ use Rattle.shape.specs.Tree.{Tree, root, inputs}
 use Rattle.shape.specs.Letter.{wayIn, fill}
 use Rattle.shape.specs.Positions.{peaksIn, fold}
 use Rattle.shape.specs.Seen.{seenIn, seen}
-use Rattle.shape.specs.Difference.{Diff, agree, unequal, difference}
+use Rattle.shape.specs.Difference.{difference}
 use Rattle.nodes.specs.Nodes.{nodeIn}
 use Rattle.difference.specs.Inputs.{bytesOf, above, told}
 use Rattle.letter.specs.Items.{itemCount, treeOf}
 use Rattle.difference.specs.Outcome.{FindOutcome, findRefused, settled}
 use Rattle.letter_finder.specs.Outcome.{ownRoot, ownOrder}
 use Rattle.difference.specs.declared.first.Input.{Input}
-use Rattle.difference.specs.declared.first.Difference.{Difference}
 use Rattle.letter_finder.specs.declared.walk.Trail.{Trail}
 
 -- on top of a fork of `half` leaves and `rest`, whose right side begins at position mid: the node within a peak, above the peaks what is worked out

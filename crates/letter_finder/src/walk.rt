@@ -1,8 +1,6 @@
 // The walk from the root of the folded tree down to a leaf, the log's side beside the letter's.
 ghost use mathlib.Core.Path.{_≡_};
-ghost use Prim.Native.Nat.{_^_, _≤_};
 ghost use Rattle.digest.specs.Digest.{digestOf};
-ghost use Rattle.nodes.specs.Nodes.{nodeIn};
 ghost use Rattle.difference.specs.Inputs.{bytesOf};
 ghost use Rattle.letter_finder.specs.Steps.{crown, Forkable, OneFork, Walkable, Walked};
 use difference::first::Difference;

@@ -1,3 +1,3 @@
 -- Items written, one height after the other, whole or not at all.
-pub mod Putting
-pub mod Written
+mod Putting
+mod Written

@@ -1,7 +1,7 @@
 -- The promise, proved.
-pub mod Kept
-pub mod Ours
-pub mod Checked
-pub mod Found
-pub mod Named
+mod Kept
+mod Ours
+mod Checked
+mod Found
+mod Named
 pub mod Promise

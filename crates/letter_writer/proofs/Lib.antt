@@ -1,2 +1,2 @@
 -- What the proof of the writer needs.
-pub mod Fills
+mod Fills

@@ -1,8 +1,7 @@
 -- Laws of the log.
-pub mod Climbs
-pub mod Saving
-pub mod Writing
-pub mod Done
+mod Climbs
+mod Writing
+mod Done
 pub mod Only
 pub mod Grown
 pub mod Appends

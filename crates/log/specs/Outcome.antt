@@ -1,6 +1,6 @@
 -- What append and root answer, and what an append leaves in the buffer, for every input.
 use mathlib.Core.List.{List, [], _∷_}
-use Prim.Native.Nat.{ℕ, suc, _*_, _^_}
+use Prim.Native.Nat.{ℕ, suc, _*_}
 use lib.ListN.{length}
 use Rattle.wire.specs.Limits.{mostLeaves, longestRecord}
 use Rattle.order.specs.Order.{Refusal, _if_, _is_, _above_, _under_, verdict}

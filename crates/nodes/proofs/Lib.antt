@@ -1,4 +1,4 @@
 -- Laws of nodes.
 pub mod Joined
-pub mod Folds
+mod Folds
 pub mod From

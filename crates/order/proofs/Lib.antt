@@ -1,3 +1,3 @@
 -- The laws of the refusal order.
-pub mod Tests
+mod Tests
 pub mod Laws

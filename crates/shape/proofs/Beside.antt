@@ -1,6 +1,6 @@
 -- Any nodes on the way to a leaf, a log's or not, beside a tree that has their root, over any digest function: where no input differs no node is
 -- broken, and the leaf's node is the tree's leaf; and where none is broken the first difference is two strings with one digest.
-use mathlib.Core.Path.{_≡_, refl, sym, ap, ap₂, _∙_}
+use mathlib.Core.Path.{_≡_, refl, sym, ap, _∙_}
 use mathlib.Core.Logic.{_≢_, by-cases}
 use mathlib.Core.List.{List, [], _∷_, _++_, append-nil}
 use Prim.Native.Nat.{ℕ, zero, suc, _+_, _-_, _^_, _≤_, _<_}

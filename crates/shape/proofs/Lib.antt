@@ -1,22 +1,22 @@
 -- Laws of sizes, counts and positions; of trees and letters; and of what a buffer gives that holds a log's nodes.
 pub mod Powers
 pub mod Heights
-pub mod Trailing
+mod Trailing
 pub mod Sizes
-pub mod Counts
+mod Counts
 pub mod Counting
-pub mod Narrow
+mod Narrow
 pub mod Only
 pub mod Marks
 pub mod Difference
 pub mod Bind
-pub mod Prune
+mod Prune
 pub mod Letters
 pub mod Trees
 pub mod Plain
 pub mod Ways
 pub mod Nodes
-pub mod Held
+mod Held
 pub mod Appends
 pub mod Leaves
 pub mod Peaks

@@ -40,7 +40,7 @@ module _ (digest : List ℕ → List ℕ) where
       (plain-in h (take (2 ^ h) ds) (omega arith) (omega arith))
       (plain-in h (drop (2 ^ h) ds) (omega arith) (omega arith))))
 
-  -- request m: the root of the folded tree is the plain rule's ..
+  -- the root of the folded tree is the plain rule's ..
   pub plain-rule : (ds : List (List ℕ)) → 0 < length ds → Plain digest ds (root digest (tree ds))
   unfolding tree
   plain-rule ds p = plain-in _ ds p (height-holds (length ds))

@@ -89,7 +89,7 @@ way-most (suc h) n i =
 pub way-at-most : (h n i : ℕ) → n ≤ 2 ^ h → length (way n i) ≤ h
 way-at-most h n i p = rw (← way-any h n i p) (way-most h n i)
 
--- request l: no index of a log of up to 2^32 leaves needs more than 32 items
+-- no index of a log of up to 2^32 leaves needs more than 32 items
 pub items-at-most : (digest : List ℕ → List ℕ) (ds : List (List ℕ)) (i : ℕ) → i < length ds → length ds ≤ 2 ^ 32
     → length (items digest (tree ds) (way (length ds) i)) ≤ 32
 items-at-most digest ds i p q = rw (items-length digest (way-leads ds i p)) (way-at-most 32 (length ds) i q)

@@ -77,7 +77,7 @@ fn near(size: u64) -> u64
     low
 }
 
-// The number of leaves, up to 2^32, whose size this is: from the tallest peak that fits down. 1 where there is none.
+// The number of leaves, up to 2^32, whose size this is: of 32 counts in a row, five bits one after the other. 1 where there is none.
 pub fn leaf_count(size: u64) -> Counted
     ensures { λ r. ⌜ counted r ≡ countAnswer size ⌝ }
 {

@@ -1,7 +1,7 @@
 -- Four chunks go on side by side, block after block: `Laned` has the four lists of chaining words at each block.
 use Prim.Native.Nat.{_-_}
 use native.Mathlib.Omega.{arith}
-use Rattle.blake.specs.Lanes.{laneOf}
+use Rattle.blake.specs.Steps.{laneOf}
 use Rattle.blake.proofs.Laned.{Chains4, chunks-none, chunks-more, chunks-all}
 use borrow.Author.Needs.{needs}
 use Rattle.blake.proofs.lane.chunk4.Statement.{statement}

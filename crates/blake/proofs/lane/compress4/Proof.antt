@@ -6,7 +6,7 @@ use native.Mathlib.Nat.{add-sub-cancel-left}
 use native.Mathlib.Omega.{arith}
 use lib.ListN.{take, drop}
 use Rattle.compression.specs.Compression.{compressed, wordsOf}
-use Rattle.blake.specs.Lanes.{laneOf, laned, compressed4}
+use Rattle.blake.specs.Steps.{laneOf, laned, compressed4}
 use Rattle.compression.proofs.Fill.{Fills, fills-none, fills-more, fills-all, fills-less}
 use Rattle.blake.proofs.Laned.{rule, rule-at}
 use borrow.Author.Needs.{needs}

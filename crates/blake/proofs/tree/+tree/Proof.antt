@@ -9,7 +9,7 @@ use borrow.Fn.Kinds.{In}
 use borrow.Fn.PlainCycle.{Measures, is, falls, and}
 use Rattle.blake.specs.Blake.{treed}
 use Rattle.blake.proofs.Sides.{tree-chunk}
-use Rattle.blake.proofs.Rooms.{room-short, room-left, room-right, room-chunk, room-quad, fits-short, fits-long}
+use Rattle.blake.proofs.tree.Rooms.{room-short, room-left, room-right, room-chunk, room-quad, fits-short, fits-long}
 use Rattle.blake.proofs.tree.tree.Reads as tree
 use Rattle.blake.proofs.tree.tree.Kinds as tree-kinds
 use Rattle.blake.proofs.tree.+tree.Lts-tree as tree-lts

@@ -1,6 +1,6 @@
 -- The height by the leading zeros of the number of whole chunks before the last.
 use lib.Count.{leading-le}
-use Rattle.blake.proofs.Rooms.{high-enough}
+use Rattle.blake.proofs.tree.Rooms.{high-enough}
 use borrow.Author.Needs.{needs}
 use Rattle.blake.proofs.tree.height.Statement.{statement}
 use Rattle.blake.proofs.tree.height.Tie as tie

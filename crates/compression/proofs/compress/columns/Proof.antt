@@ -1,5 +1,5 @@
 -- Four mixes of sixteen words, put together again: `Quarters` has them written out.
-use Rattle.compression.proofs.Quarters.{columned-from}
+use Rattle.compression.proofs.compress.Quarters.{columned-from}
 use borrow.Author.Needs.{needs}
 use Rattle.compression.proofs.compress.columns.Statement.{statement}
 use Rattle.compression.proofs.compress.columns.Tie as tie

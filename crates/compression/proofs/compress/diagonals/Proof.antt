@@ -1,5 +1,5 @@
 -- Four mixes of sixteen words, put together again: `Quarters` has them written out.
-use Rattle.compression.proofs.Quarters.{diagonaled-from}
+use Rattle.compression.proofs.compress.Quarters.{diagonaled-from}
 use borrow.Author.Needs.{needs}
 use Rattle.compression.proofs.compress.diagonals.Statement.{statement}
 use Rattle.compression.proofs.compress.diagonals.Tie as tie

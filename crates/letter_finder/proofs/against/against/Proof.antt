@@ -1,7 +1,6 @@
 -- Each refusal is the first of its order that applies, by what the walk finds; then the answer is settled.
 use mathlib.Core.Path.{_≡_, sym, ap₂, _∙_}
 use Prim.Native.Nat.{ℕ}
-use native.Mathlib.Omega.{arith}
 use Rattle.digest.specs.Digest.{digestOf}
 use Rattle.order.proofs.Laws.{refuses, passes}
 use Rattle.wire.specs.Slices.{differ, rowsFrom}
@@ -14,7 +13,7 @@ use Rattle.difference.specs.Outcome.{settled}
 use Rattle.letter_finder.specs.Outcome.{ownRoot, ownOrder}
 use Rattle.letter_finder.specs.Steps.{againstOutcome}
 use Rattle.difference.proofs.Settled.{refused-as}
-use Rattle.letter_finder.proofs.Whole.{Whole, whole-room, whole, same-digest, whole-sound}
+use Rattle.letter_finder.proofs.against.Whole.{Whole, whole-room, whole, same-digest, whole-sound}
 use borrow.Author.Needs.{needs}
 use Rattle.letter_finder.proofs.against.against.Statement.{statement}
 use Rattle.letter_finder.proofs.against.against.Tie as tie

@@ -4,7 +4,7 @@ use Prim.Native.Nat.{ℕ, suc}
 use Rattle.digest.specs.Digest.{digestOf}
 use Rattle.shape.specs.Seen.{brokenIn, broken}
 use Rattle.nodes.specs.Nodes.{nodeIn}
-use Rattle.letter_finder.proofs.Whole.{whole-room}
+use Rattle.letter_finder.proofs.against.Whole.{whole-room}
 use borrow.Author.Needs.{needs}
 use Rattle.letter_finder.proofs.against.way_broken.Statement.{statement}
 use Rattle.letter_finder.proofs.against.way_broken.Tie as tie

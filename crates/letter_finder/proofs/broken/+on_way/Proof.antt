@@ -5,7 +5,7 @@ use borrow.Author.Needs.{needs}
 use borrow.Fn.Kinds.{In}
 use borrow.Fn.PlainCycle.{Measures, is, falls, and}
 use Rattle.letter_finder.proofs.Turning.{Above, half-bounds, low-room, left-room, right-room, top-room}
-use Rattle.letter_finder.proofs.Breaking.{broke-none, broke-low, broke-left, broke-right}
+use Rattle.letter_finder.proofs.broken.Breaking.{broke-none, broke-low, broke-left, broke-right}
 use Rattle.letter_finder.proofs.broken.on_way.Reads as on-way
 use Rattle.letter_finder.proofs.broken.on_way.Kinds as on-way-kinds
 use Rattle.letter_finder.proofs.broken.+on_way.Lts-on_way as on-way-lts

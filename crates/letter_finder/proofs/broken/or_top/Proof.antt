@@ -5,7 +5,7 @@ use Prim.Native.Nat.{ℕ}
 use Rattle.digest.specs.Digest.{digestOf}
 use Rattle.wire.specs.Slices.{differ}
 use Rattle.letter_finder.specs.Steps.{topBroken}
-use Rattle.letter_finder.proofs.Breaking.{either-none, either-some, top-above, top-within}
+use Rattle.letter_finder.proofs.broken.Breaking.{either-none, either-some, top-above, top-within}
 use borrow.Author.Needs.{needs}
 use Rattle.letter_finder.proofs.broken.or_top.Statement.{statement}
 use Rattle.letter_finder.proofs.broken.or_top.Tie as tie

@@ -2,7 +2,7 @@
 use mathlib.Core.Path.{refl}
 use Prim.Native.Nat.{_-_}
 use native.Mathlib.Omega.{arith}
-use Rattle.log.proofs.Saving.{Saves, saves-none, saves-more, span-fits}
+use Rattle.log.proofs.new.Saving.{Saves, saves-none, saves-more, span-fits}
 use borrow.Author.Needs.{needs}
 use Rattle.log.proofs.new.lefts.Statement.{statement}
 use Rattle.log.proofs.new.lefts.Tie as tie

@@ -5,7 +5,7 @@ use lib.ListN.{length, take, length-set}
 use lib.Seq.{take-all}
 use borrow.Author.Needs.{needs}
 use Rattle.runs.specs.Given.{recordOf}
-use Rattle.runs.proofs.More.{record-more}
+use Rattle.runs.proofs.given.More.{record-more}
 use Rattle.runs.proofs.given.fill.Statement.{statement}
 use Rattle.runs.proofs.given.fill.Tie as tie
 

@@ -4,7 +4,7 @@ use Prim.Native.Nat.{_≤_}
 use native.Mathlib.Omega.{arith}
 use borrow.Author.Needs.{needs}
 use Rattle.runs.specs.Lines.{digitsIn}
-use Rattle.runs.proofs.Digits.{at-most, fewest-counted}
+use Rattle.runs.proofs.lines.Digits.{at-most, fewest-counted}
 use Rattle.runs.proofs.lines.say_number.Statement.{statement}
 use Rattle.runs.proofs.lines.say_number.Tie as tie
 

@@ -11,7 +11,7 @@ use lib.Seq.{length-take-le, take-all}
 use lib.Count.{leadingZeros, leading-top}
 use lib.Pow.{pow-mono}
 use Rattle.blake.specs.Blake.{parented, treed}
-use Rattle.blake.specs.Room.{Room}
+use Rattle.blake.specs.Steps.{Room}
 use Rattle.blake.proofs.Sides.{tree-short, tree-long}
 
 twice : (h : ℕ) → (h ≡ 0 → ⊥) → 2 ^ h ≡ 2 * 2 ^ (h - 1)

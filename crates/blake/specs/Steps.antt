@@ -1,9 +1,11 @@
--- Four lists of eight words in one, for the code that works four chunks side by side: word i of lane k is at 8 * k + i.
+-- What the code's own steps are called, which no public contract cites: four chunks side by side, and what the tree's function asks.
 use mathlib.Core.List.{List}
-use Prim.Native.Nat.{ℕ, _+_, _*_, _/_, _%_}
+use Prim.Native.Nat.{ℕ, _+_, _*_, _/_, _%_, _^_, _≤_}
 use lib.ListN.{getD, take, drop}
 use Rattle.compression.specs.Build.{build}
 use Rattle.compression.specs.Compression.{compressed, wordsOf}
+
+-- ---- Four lists of eight words in one: word i of lane k is at 8 * k + i
 
 -- lane k
 unfoldable pub laneOf : List ℕ → ℕ → List ℕ
@@ -14,10 +16,19 @@ unfoldable pub laned : (ℕ → List ℕ) → List ℕ
 laned f = build 32 (λ p. getD (f (p / 8)) (p % 8) 0)
 
 -- chunk k of the input
-abbrev pub part : List ℕ → ℕ → List ℕ
-part bs k = take 1024 (drop (1024 * k) bs)
+abbrev pub chunkIn : List ℕ → ℕ → List ℕ
+chunkIn bs k = take 1024 (drop (1024 * k) bs)
 
 -- lane k goes on by the block at place `at` of chunk k, whose number is n + k
 unfoldable pub compressed4 : List ℕ → List ℕ → ℕ → ℕ → ℕ → List ℕ
 compressed4 cv bs at n flags =
     laned (λ k. compressed (laneOf cv k) (wordsOf 16 (take 64 (drop (1024 * k + at) bs))) (n + k) 64 flags)
+
+-- ---- The tree: few enough chunks that no counter and no flag wraps
+
+pub record Room (h flag root n len : ℕ) : Type 0 where
+  pub height : h ≤ 54
+  pub mode : flag ≤ 16
+  pub last : root ≤ 8
+  pub bytes : len ≤ 1024 * 2 ^ h
+  pub chunks : n + 2 ^ h ≤ 2 ^ 54

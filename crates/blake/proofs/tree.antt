@@ -1,0 +1,3 @@
+-- Laws that the proofs of `src/tree.rt` cite.
+mod Pair
+mod Rooms

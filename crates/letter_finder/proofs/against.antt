@@ -1,0 +1,2 @@
+-- Laws that the proofs of `src/against.rt` cite.
+mod Whole

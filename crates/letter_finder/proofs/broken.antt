@@ -1,0 +1,2 @@
+-- Laws that the proofs of `src/broken.rt` cite.
+mod Breaking

@@ -1,0 +1,2 @@
+-- Laws that the proofs of `src/new.rt` cite.
+mod Saving

@@ -1,0 +1,2 @@
+-- Laws that the proofs of `src/given.rt` cite.
+mod More

@@ -1,0 +1,2 @@
+-- Laws that the proofs of `src/lines.rt` cite.
+mod Digits
