@@ -1,8 +1,13 @@
 /* The keeper's calls, as C sees them, in libkeeper.a (rt staticlib keeper). docs/RULES.md has the rules.
-   A lent slice is two arguments, a pointer and a length in bytes. The caller owes that each pointer is good for its bytes, and that what a
-   call writes overlaps nothing else that it is lent. Each call returns a number: KEEPER_DONE, or the first refusal that applies, in the order
-   that stands at the call. A refusal changes no lent byte and no result. No proof compares this file with crates/keeper/src/lib.rt;
-   outside/outside.py calls every function by it. */
+   A lent slice is two arguments, a pointer and a length in bytes. Each call returns a number: KEEPER_DONE, or the first refusal that applies, in
+   the order that stands at the call. A refusal changes no lent byte and no result. No call keeps anything when it returns: any number of threads
+   may call at once, each with its own bytes.
+   What the caller owes, and nothing checks:
+   - each pointer is good for its bytes, to read or to write; one of length 0 is not looked at and may be NULL;
+   - no length is longer than the object behind its pointer, which C keeps below 2^63 bytes;
+   - a result pointer is not NULL, and is aligned as its type is;
+   - what a call writes, results too, overlaps nothing else that it is lent: so the finder's two buffers lie apart.
+   No proof compares this file with crates/keeper/src/lib.rt; outside/ calls every function by it. */
 #ifndef KEEPER_H
 #define KEEPER_H
 #include <stddef.h>

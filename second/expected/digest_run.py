@@ -2,10 +2,7 @@
 from expected.given import counting_bytes
 from rules.blake3 import digest, digest_of_pair
 
-LENGTHS = (
-    0, 1, 63, 64, 65, 1023, 1024, 1025, 2048, 2049, 4095, 4096, 4097,
-    5120, 8192, 12289, 16384, 16385, 31744, 100000,
-)
+LENGTHS = (0, 1, 63, 64, 65, 1023, 1024, 1025, 2048, 2049)
 
 
 def expect_digest_run():

@@ -10,25 +10,14 @@ from rules.shape import nodes_of
 LEAVES = 20
 # Letters written of a log of seven records: the size, the index, the record's number and length, how much of the nodes and of the output is lent.
 WRITES = (
-    (11, 3, 3, 200, 352, 400), (11, 3, 3, 200, 352, 316), (11, 3, 3, 200, 352, 315), (11, 3, 3, 200, 352, 0),
-    (2, 3, 3, 200, 352, 400), (8589934592, 3, 3, 200, 352, 400), (2, 7, 3, 16385, 0, 0),
-    (11, 7, 3, 200, 352, 400), (11, 2**64 - 1, 3, 200, 352, 400), (0, 0, 3, 200, 352, 400), (11, 7, 3, 16385, 0, 0),
-    (11, 3, 3, 16385, 352, 400), (11, 3, 3, 16385, 0, 0),
-    (11, 3, 3, 200, 351, 400), (11, 3, 2, 200, 351, 0), (8589934591, 3, 3, 200, 352, 400), (8589934591, 2**32, 3, 200, 352, 400),
-    (11, 3, 2, 200, 352, 400), (11, 3, 3, 199, 352, 400), (11, 2, 3, 200, 352, 400), (11, 3, 2, 200, 352, 0),
+    (11, 3, 3, 200, 352, 316), (11, 3, 3, 200, 352, 315), (2, 3, 3, 200, 352, 400), (11, 7, 3, 200, 352, 400),
+    (11, 3, 3, 16385, 352, 400), (11, 3, 3, 200, 351, 400), (11, 3, 2, 200, 352, 400),
 )
 # Letters checked: the size, the root's length, then the size, the index and the record length that the letter states, and its length.
 CHECKS = (
-    (11, 32, 11, 3, 200, 316),
-    (2, 32, 11, 3, 200, 316), (8589934592, 32, 11, 3, 200, 316), (2, 31, 11, 3, 200, 316),
-    (11, 31, 11, 3, 200, 316), (11, 33, 11, 3, 200, 316), (11, 0, 11, 3, 200, 316), (11, 31, 11, 3, 200, 0),
-    (11, 32, 11, 3, 200, 0), (11, 32, 11, 3, 200, 19), (11, 32, 4, 3, 200, 19),
-    (11, 32, 4, 3, 200, 316), (11, 32, 2**64 - 1, 3, 200, 316), (4, 32, 11, 3, 200, 316), (11, 32, 4, 7, 200, 316),
-    (11, 32, 11, 7, 200, 316), (11, 32, 11, 2**64 - 1, 200, 316), (0, 32, 0, 0, 200, 316), (11, 32, 11, 7, 16385, 316),
-    (11, 32, 11, 3, 16385, 316), (11, 32, 11, 3, 2**32 - 1, 316), (11, 32, 11, 3, 16385, 20), (11, 32, 11, 3, 16384, 316),
-    (11, 32, 11, 3, 199, 316), (11, 32, 11, 3, 201, 316), (11, 32, 11, 3, 200, 315), (11, 32, 11, 3, 200, 317),
-    (11, 32, 11, 3, 200, 20), (8589934591, 32, 8589934591, 0, 200, 316),
-    (11, 32, 11, 2, 200, 316), (11, 32, 11, 3, 168, 284),
+    (11, 32, 11, 3, 200, 316), (2, 32, 11, 3, 200, 316), (11, 31, 11, 3, 200, 316), (11, 32, 11, 3, 200, 19), (11, 32, 4, 3, 200, 316),
+    (11, 32, 11, 7, 200, 316), (11, 32, 11, 3, 16385, 316), (11, 32, 11, 3, 200, 315), (11, 32, 11, 3, 200, 317),
+    (11, 32, 11, 2, 200, 316),
 )
 
 
@@ -47,7 +36,7 @@ def lines_of_letters(most):
 
 
 def lines_of_writes(size, buffer):
-    """Letters at the edges of the writer's order, and whether a byte of the output behind what was written has changed."""
+    """Letters written and refused, and whether a byte of the output behind what was written has changed."""
     for row in WRITES:
         named, index, number, length, lent, room = row
         before = run_record(9, LETTER_ROOM)
@@ -58,7 +47,7 @@ def lines_of_writes(size, buffer):
 
 
 def lines_of_checks(top, letter):
-    """Letters at the edges of the checker's order."""
+    """A letter accepted, and refused by each number."""
     given = letter.ljust(LETTER_ROOM, b"\0")
     for row in CHECKS:
         size, root_length, named, index, stated, length = row
@@ -98,7 +87,7 @@ def lines_of_shortcuts():
 
 
 def expect_letter_run():
-    """Letters of small logs; the edges of both orders; one letter changed; the shortcuts."""
+    """Letters of small logs; each refusal of both orders; one letter changed; the shortcuts."""
     lines = [*lines_of_letters(LEAVES), *lines_of_writes(*log_of(7)), *lines_of_checks(*letter_in(7, 3)[1:])]
     lines += [*lines_of_changes(*letter_in(15, 12)), *lines_of_shortcuts()]
     return "".join(line + "\n" for line in lines)

@@ -3,7 +3,7 @@ from rules.shape import leaf_count, leaf_position, size_of, trailing_ones
 
 LEAVES = (*range(9), 2**32, 2**32 + 1)
 INDEXES = (*range(9), 2**32 - 1, 2**32)
-SIZES = (*range(21), 8589934591, 8589934592, 2**64 - 1)
+SIZES = (*range(10), 8589934591, 8589934592)
 
 
 def expect_shape_run():

@@ -7,40 +7,19 @@ use runs::lines::say_hex;
 use runs::lines::say_number;
 
 // The lengths that are digested.
-const LENGTHS: [usize; 20] = [
-    0,
-    1,
-    63,
-    64,
-    65,
-    1023,
-    1024,
-    1025,
-    2048,
-    2049,
-    4095,
-    4096,
-    4097,
-    5120,
-    8192,
-    12289,
-    16384,
-    16385,
-    31744,
-    100000,
-];
+const LENGTHS: [usize; 10] = [0, 1, 63, 64, 65, 1023, 1024, 1025, 2048, 2049];
 
 // The line of the first n bytes of bytes.
-fn show_first(bytes: &[u8; 100000], n: usize) {
+fn show_first(bytes: &[u8; 2049], n: usize) {
     say_number(b"", n as u64);
     say_digest(b" ", given::front(bytes, n));
     end_line();
 }
 
 // A line for each length.
-fn show_lengths(bytes: &[u8; 100000]) {
+fn show_lengths(bytes: &[u8; 2049]) {
     let lengths = LENGTHS;
-    for i in 0..20 {
+    for i in 0..10 {
         show_first(bytes, lengths[i]);
     }
 }
@@ -63,7 +42,7 @@ fn show_pairs() {
 }
 
 fn main() {
-    let mut bytes = [0u8; 100000];
+    let mut bytes = [0u8; 2049];
     given::fill(0, &mut bytes);
     show_lengths(&bytes);
     show_pairs();

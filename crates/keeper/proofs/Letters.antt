@@ -1,14 +1,13 @@
--- How the calls for letters follow from the calls below them.
+-- How the call that checks a letter follows from the checker.
 use mathlib.Core.Logic.{_≢_}
-use mathlib.Core.Path.{_≡_, refl}
+use mathlib.Core.Path.{_≡_, sym, ap, _∙_}
 use mathlib.Core.List.{List}
 use Prim.Native.Nat.{ℕ}
 use Rattle.digest.specs.Digest.{digestOf}
 use Rattle.letter_checker.specs.declared.Checked.{Checked}
-use Rattle.letter_checker.specs.Outcome.{CheckOutcome, checked, checkRefused, checkDone, checkOrder, checkOutcome}
-use Rattle.letter_checker.proofs.Accepted.{check-numbered}
+use Rattle.letter_checker.specs.Outcome.{CheckOutcome, checked, checkOutcome}
 use Rattle.keeper.specs.Letters.{checkLeft, letterCheckCall}
-use Rattle.keeper.proofs.Kept.{kept-refused, kept-done}
+use Rattle.keeper.proofs.Kept.{kept-done, kept-left}
 
 module _ (size : ℕ) (root letter : List ℕ) (oldIndex oldStart oldLength : ℕ) (r : Checked)
     (e : checked r ≡ checkOutcome digestOf size root letter) where
@@ -16,20 +15,13 @@ module _ (size : ℕ) (root letter : List ℕ) (oldIndex oldStart oldLength : �
   number o = o .number
 
   -- a refusal leaves what was there; a done check puts its three results behind the pointers
-  abbrev kept : ℕ → CheckOutcome
-  kept n = checkLeft n oldIndex oldStart oldLength
-
-  abbrev given : CheckOutcome → CheckOutcome
-  given o = checkLeft 0 (o .index) (o .start) (o .length)
-
-  pub check-refused : r .number ≢ 0 → kept (r .number) ≡ letterCheckCall size root letter oldIndex oldStart oldLength
-  unfolding checkOutcome letterCheckCall
-  check-refused =
-      kept-refused number checkRefused (checkOrder digestOf size root letter) (checkDone letter) (λ n. refl) refl e kept given
+  pub check-refused : r .number ≢ 0 → checkLeft (r .number) oldIndex oldStart oldLength ≡ letterCheckCall size root letter oldIndex oldStart oldLength
+  unfolding letterCheckCall
+  check-refused k =
+      ap (λ (o : CheckOutcome). checkLeft (o .number) oldIndex oldStart oldLength) e ∙ sym (kept-left _ _ _ (λ z. k (ap number e ∙ z)))
 
   pub check-done : r .number ≡ 0
       → checkLeft 0 (r .index) (r .start) (r .length) ≡ letterCheckCall size root letter oldIndex oldStart oldLength
-  unfolding checkOutcome letterCheckCall
-  check-done =
-      kept-done number checkRefused (checkOrder digestOf size root letter) (checkDone letter) (λ n. refl) refl e kept given
-      (check-numbered digestOf size root letter)
+  unfolding letterCheckCall
+  check-done z =
+      ap (λ (n : ℕ). checkLeft n (r .index) (r .start) (r .length)) (sym z) ∙ e ∙ sym (kept-done _ _ _ (sym (ap number e) ∙ z))

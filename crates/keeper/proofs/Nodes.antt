@@ -8,21 +8,21 @@ use native.Mathlib.Omega.{arith}
 use lib.Dec.{T, eqb}
 use lib.ListN.{length}
 use borrow.Author.Needs.{needs}
-use Rattle.order.specs.Order.{Test, _if_, _under_, _above_, _is-not_, verdict}
-use Rattle.order.proofs.Laws.{numbered, refuses, passes, accepted, late}
+use Rattle.order.specs.Order.{Test, _if_, _under_, _above_, verdict}
+use Rattle.order.proofs.Laws.{numbered, refuses, passes, accepted}
 use Rattle.wire.specs.Slices.{zeros, part, written}
 use Rattle.wire.specs.declared.Written.{Written}
-use Rattle.wire.specs.Writers.{WriteOutcome, wrote, writeRefused, writeDone}
+use Rattle.wire.specs.Writers.{WriteOutcome, wrote}
 use Rattle.wire.proofs.Parts.{part-length, part-whole}
 use Rattle.stored.specs.declared.Node.{Node}
 use Rattle.stored.specs.declared.Node.the-variants.{Inner, Leaf, NotANode, RecordTooLong}
 use Rattle.stored.specs.declared.Reading.{Reading}
-use Rattle.stored.specs.Nodes.{innerBytes, flagIn, digestIn, statedIn}
-use Rattle.stored.specs.Write.{innerOrder, innerOutcome}
+use Rattle.stored.specs.Nodes.{flagIn, digestIn, statedIn}
+use Rattle.stored.specs.Write.{innerOutcome}
 use Rattle.stored.specs.Read.{ReadOutcome, innerRead, leafRead, readRefused, valuesOf, readOff, readOrder, readDone, readOutcome}
 use Rattle.keeper.specs.Calls.{outOrder, writeLeft, writeCall}
 use Rattle.keeper.specs.Nodes.{storeInnerCall, ReadLeft, readLeft, kindNumber, readWritten, readCall}
-use Rattle.keeper.proofs.Kept.{refused-first, rest-decides}
+use Rattle.keeper.proofs.Kept.{kept-done, kept-left}
 use Rattle.keeper.proofs.Laws.{fits, write-refused, write-done}
 
 -- ---- Written
@@ -30,21 +30,20 @@ use Rattle.keeper.proofs.Laws.{fits, write-refused, write-done}
 -- an inner node: the digest that was read is the one that was lent, where that has 32 bytes
 module _ (digest out : List ℕ) (old : ℕ) (r : Written) (x d : List ℕ) (h : length digest ≡ 32) (p : d ≡ part 0 32 digest)
     (e : wrote r x ≡ innerOutcome d out) where
-  read-whole : wrote r x ≡ verdict (writeRefused out) (innerOrder out) (writeDone (innerBytes digest) out)
-  unfolding innerOutcome
+  read-whole : wrote r x ≡ innerOutcome digest out
   read-whole =
       let q : d ≡ digest = p ∙ ap (λ (k : ℕ). part 0 k digest) (sym h) ∙ part-whole digest in
       e ∙ ap (λ (d : List ℕ). innerOutcome d out) q
 
-  behind : {y : WriteOutcome} → y ≡ writeCall (innerOrder out) (innerBytes digest) out old → y ≡ storeInnerCall digest out old
+  behind : {y : WriteOutcome} → y ≡ writeCall (innerOutcome digest out) old → y ≡ storeInnerCall digest out old
   unfolding storeInnerCall
-  behind = late (λ n. writeLeft n old out) (12 if length digest is-not 32 ∷ []) (innerOrder out) (writeDone (innerBytes digest) out) (h, tt)
+  behind f = passes _ _ _ f (h, tt)
 
   pub inner-refused : r .number ≢ 0 → writeLeft (r .number) old x ≡ storeInnerCall digest out old
-  inner-refused k = behind (write-refused (innerOrder out) (innerBytes digest) out old r x read-whole k)
+  inner-refused k = behind (write-refused (innerOutcome digest out) old r x read-whole k)
 
   pub inner-done : r .number ≡ 0 → writeLeft 0 (r .length) x ≡ storeInnerCall digest out old
-  inner-done z = behind (write-done (innerOrder out) (innerBytes digest) out old r x read-whole tt z)
+  inner-done z = behind (write-done (innerOutcome digest out) old r x read-whole z)
 
 -- ---- Read
 
@@ -93,21 +92,19 @@ module _ (bs : List ℕ) (oldKind : ℕ) (out : List ℕ) (oldStart oldLength : 
 
   -- the reader refuses; the output is short; the results go behind their pointers
   pub read-refused : (n : ℕ) → n ≡ readOff r .number → n ≢ 0 → unread n ≡ readCall bs oldKind out oldStart oldLength
-  unfolding readOutcome readCall
-  read-refused n f k =
-      ap unread f
-      ∙ refused-first readNumber (readRefused (zeros 32)) (readOrder bs) (readDone bs) (λ n. refl) (done-facts bs .0) e unread (outOrder out) _
-      (λ z. k (f ∙ z))
+  unfolding readCall
+  read-refused n f k = ap unread (f ∙ ap readNumber e) ∙ sym (kept-left _ _ _ (λ z. k (f ∙ ap readNumber e ∙ z)))
 
-  rest : {y : ReadLeft} → readOff r .number ≡ 0 → y ≡ verdict unread (outOrder out) (readWritten (readDone bs) out)
+  given : {y : ReadLeft} → readOff r .number ≡ 0 → y ≡ verdict unread (outOrder out) (readWritten (readOff r) out)
       → y ≡ readCall bs oldKind out oldStart oldLength
-  unfolding readOutcome readCall
-  rest z =
-      rest-decides readNumber (readRefused (zeros 32)) (readOrder bs) (readDone bs) (λ n. refl) (done-facts bs .0) e unread (outOrder out) _
-      (read-numbered bs) z
+  unfolding readCall
+  given z f =
+      f
+      ∙ ap (λ (o : ReadOutcome). verdict unread (outOrder out) (readWritten o out)) e
+      ∙ sym (kept-done _ _ _ (sym (ap readNumber e) ∙ z))
 
   pub read-short : readOff r .number ≡ 0 → length out < 32 → unread 6 ≡ readCall bs oldKind out oldStart oldLength
-  read-short z h = rest z (refuses 6 _ _ _ refl (search needs))
+  read-short z h = given z (refuses 6 _ _ _ refl (search needs))
 
   read-is : readOff r .number ≡ 0 → readOff r ≡ readDone bs
   unfolding readOutcome
@@ -122,4 +119,4 @@ module _ (bs : List ℕ) (oldKind : ℕ) (out : List ℕ) (oldStart oldLength : 
       let d : o ≡ readDone bs = sym p ∙ read-is t in
       let f = fits (o .digest) out y (ap (λ (o : ReadOutcome). length (o .digest)) d ∙ done-facts bs .1) h w in
       let g = ap (λ (l : List ℕ). readLeft 0 (kindNumber (o .kind)) l (o .start) (o .length)) f in
-      rest t (passes _ _ _ (g ∙ ap (λ (o : ReadOutcome). readWritten o out) d) (search needs))
+      given t (passes _ _ _ (g ∙ ap (λ (o : ReadOutcome). readWritten o out) (sym p)) (search needs))

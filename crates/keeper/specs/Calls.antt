@@ -1,6 +1,6 @@
--- What the calls for C answer, and what they leave behind each pointer, for every input. A refusal leaves everything as it was.
+-- What the calls for C answer, and what they leave behind each pointer: the outcome of the call below, with what was there kept on a refusal.
 use mathlib.Core.Bool.{true, false}
-use mathlib.Core.List.{List, [], _∷_, _++_}
+use mathlib.Core.List.{List, [], _∷_}
 use Prim.Native.Nat.{ℕ}
 use lib.Dec.{eqb}
 use lib.ListN.{length}
@@ -8,8 +8,12 @@ use Rattle.digest.specs.Digest.{digestOf}
 use Rattle.order.specs.Order.{Refusal, _if_, _under_, verdict}
 use Rattle.shape.specs.Answers.{Answer}
 use Rattle.wire.specs.Slices.{splice}
-use Rattle.wire.specs.Writers.{WriteOutcome, writeDone}
-use Rattle.log.specs.Outcome.{AppendOutcome, appendOrder, appendDone, rootOrder, rootDone}
+use Rattle.wire.specs.Writers.{WriteOutcome}
+use Rattle.log.specs.Outcome.{AppendOutcome, appendOutcome, rootOutcome}
+
+-- what is left behind the pointers: `done` where the call below has the number 0, and `kept` where it refuses
+unfoldable pub orKept : {X : Type 0} → ℕ → X → X → X
+orKept number done kept = elim (eqb number 0) [ true ↦ done | false ↦ kept ]
 
 -- ---- Sizes, positions, counts
 
@@ -19,7 +23,8 @@ answered number value = record { number = number; value = value }
 
 -- a result variable that held `old`: the answer's value where it is done
 unfoldable pub over : ℕ → Answer → Answer
-over old a = elim (eqb (a .number) 0) [ true ↦ a | false ↦ answered (a .number) old ]
+unfolding orKept
+over old a = orKept (a .number) a (answered (a .number) old)
 
 -- ---- Append
 
@@ -30,7 +35,8 @@ appendLeft number size hashes bs = record { number = number; size = size; hashes
 -- the result variables held `oldSize` and `oldHashes`
 unfoldable pub appendCall : ℕ → List ℕ → List ℕ → ℕ → ℕ → AppendOutcome
 appendCall size rec bs oldSize oldHashes =
-    verdict (λ number. appendLeft number oldSize oldHashes bs) (appendOrder size rec bs) (appendDone digestOf size rec bs)
+    let o = appendOutcome digestOf size rec bs in
+    orKept (o .number) o (appendLeft (o .number) oldSize oldHashes (o .bytes))
 
 -- ---- A digest written out
 
@@ -42,22 +48,23 @@ pub record Filled : Type 0 where
 abbrev pub filled : ℕ → List ℕ → Filled
 filled number bs = record { number = number; bytes = bs }
 
--- a refusal leaves the output buffer as it was
-abbrev pub unfilled : List ℕ → ℕ → Filled
-unfilled out number = filled number out
-
 -- 6: a digest wants 32 bytes
 abbrev pub outOrder : List ℕ → List Refusal
 outOrder out = 6 if length out under 32 ∷ []
 
--- the digest of any bytes, in the first 32 bytes of the output
-unfoldable pub digestCall : List ℕ → List ℕ → Filled
-digestCall bs out = verdict (unfilled out) (outOrder out) (filled 0 (splice 0 (digestOf bs) out))
+-- a digest, in the first 32 bytes of the output
+unfoldable pub handed : List ℕ → List ℕ → Filled
+handed digest out = verdict (λ number. filled number out) (outOrder out) (filled 0 (splice 0 digest out))
 
--- the root, in the first 32 bytes of the output: 1, 10, 4, then 6
+-- the digest of any bytes
+unfoldable pub digestCall : List ℕ → List ℕ → Filled
+digestCall bs out = handed (digestOf bs) out
+
+-- the root, where there is one
 unfoldable pub rootCall : ℕ → List ℕ → List ℕ → Filled
 rootCall size bs out =
-    verdict (unfilled out) (rootOrder size bs ++ outOrder out) (filled 0 (splice 0 (rootDone digestOf size bs .root) out))
+    let o = rootOutcome digestOf size bs in
+    orKept (o .number) (handed (o .root) out) (filled (o .number) out)
 
 -- ---- A writer
 
@@ -65,6 +72,6 @@ rootCall size bs out =
 abbrev pub writeLeft : ℕ → ℕ → List ℕ → WriteOutcome
 writeLeft number length bs = record { number = number; length = length; bytes = bs }
 
--- one that fills the first bytes of the output with bs; the length variable held `old`
-abbrev pub writeCall : List Refusal → List ℕ → List ℕ → ℕ → WriteOutcome
-writeCall order bs out old = verdict (λ number. writeLeft number old out) order (writeDone bs out)
+-- the length variable held `old`
+unfoldable pub writeCall : WriteOutcome → ℕ → WriteOutcome
+writeCall o old = orKept (o .number) o (writeLeft (o .number) old (o .bytes))

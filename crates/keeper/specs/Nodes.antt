@@ -1,25 +1,26 @@
--- What the calls for stored nodes answer, and what they leave behind each pointer, for every input. A refusal leaves everything as it was.
-use mathlib.Core.List.{List, _∷_, _++_}
+-- What the calls for stored nodes answer, and what they leave behind each pointer: the outcome of the call below, with what was there kept on a
+-- refusal.
+use mathlib.Core.List.{List, [], _∷_}
 use Prim.Native.Nat.{ℕ}
 use lib.ListN.{length}
 use Rattle.digest.specs.Digest.{digestOf}
 use Rattle.order.specs.Order.{_if_, _is-not_, verdict}
 use Rattle.wire.specs.Slices.{splice}
 use Rattle.wire.specs.Writers.{WriteOutcome}
-use Rattle.stored.specs.Nodes.{innerBytes, leafBytes}
-use Rattle.stored.specs.Write.{leafOrder, innerOrder}
-use Rattle.stored.specs.Read.{Kind, none, inner, leaf, ReadOutcome, readOrder, readDone}
-use Rattle.keeper.specs.Calls.{outOrder, writeCall}
+use Rattle.stored.specs.Write.{leafOutcome, innerOutcome}
+use Rattle.stored.specs.Read.{Kind, none, inner, leaf, ReadOutcome, readOutcome}
+use Rattle.keeper.specs.Calls.{orKept, outOrder, writeLeft, writeCall}
 
 -- ---- Written
 
--- the leaf of a record: 3, 6
+-- the leaf of a record; the length variable held `old`
 unfoldable pub storeLeafCall : List ℕ → List ℕ → ℕ → WriteOutcome
-storeLeafCall rec out old = writeCall (leafOrder rec out) (leafBytes digestOf rec) out old
+storeLeafCall rec out old = writeCall (leafOutcome digestOf rec out) old
 
--- the inner node of a digest: 12 where it is not 32 bytes, then 6
+-- the inner node of a digest: 12 where it is not 32 bytes, then as the writer answers
 unfoldable pub storeInnerCall : List ℕ → List ℕ → ℕ → WriteOutcome
-storeInnerCall digest out old = writeCall (12 if length digest is-not 32 ∷ innerOrder out) (innerBytes digest) out old
+storeInnerCall digest out old =
+    verdict (λ number. writeLeft number old out) (12 if length digest is-not 32 ∷ []) (writeCall (innerOutcome digest out) old)
 
 -- ---- Read
 
@@ -44,7 +45,10 @@ kindNumber leaf = 1
 abbrev pub readWritten : ReadOutcome → List ℕ → ReadLeft
 readWritten o out = readLeft 0 (kindNumber (o .kind)) (splice 0 (o .digest) out) (o .start) (o .length)
 
--- the reader's order, then 6; the result variables held `oldKind`, `oldStart` and `oldLength`
+-- as the reader answers, then 6; the result variables held `oldKind`, `oldStart` and `oldLength`
 unfoldable pub readCall : List ℕ → ℕ → List ℕ → ℕ → ℕ → ReadLeft
 readCall bs oldKind out oldStart oldLength =
-    verdict (λ number. readLeft number oldKind out oldStart oldLength) (readOrder bs ++ outOrder out) (readWritten (readDone bs) out)
+    let o = readOutcome bs in
+    orKept (o .number)
+    (verdict (λ number. readLeft number oldKind out oldStart oldLength) (outOrder out) (readWritten o out))
+    (readLeft (o .number) oldKind out oldStart oldLength)

@@ -1,4 +1,4 @@
-// A letter of a log of seven records at the edges of the checker's order: what it states, its length, and what it is checked against are changed.
+// A letter of a log of seven records, and each refusal of the checker: what it states, its length, and what it is checked against are changed.
 use crate::logs::letter_of;
 use crate::logs::log_of;
 use crate::logs::root_of;
@@ -43,51 +43,20 @@ fn try_check(size: u64, lent: u64, named: u64, index: u64, stated: u64, length: 
     end_line();
 }
 
-// Done; then by 1, 12, each at its edge and where a later one applies too.
-fn try_trusted() {
+// Done, then each refusal once: 1, 12, 7 (under 20), 8, 5, 3, 7 (one byte short, one byte long), 9.
+fn try_rows() {
     try_check(11, 32, 11, 3, 200, 316);
     try_check(2, 32, 11, 3, 200, 316);
-    try_check(8589934592, 32, 11, 3, 200, 316);
-    try_check(2, 31, 11, 3, 200, 316);
     try_check(11, 31, 11, 3, 200, 316);
-    try_check(11, 33, 11, 3, 200, 316);
-    try_check(11, 0, 11, 3, 200, 316);
-    try_check(11, 31, 11, 3, 200, 0);
-}
-
-// By 7 (under 20), 8, 5, 3, likewise.
-fn try_stated() {
-    try_check(11, 32, 11, 3, 200, 0);
     try_check(11, 32, 11, 3, 200, 19);
-    try_check(11, 32, 4, 3, 200, 19);
     try_check(11, 32, 4, 3, 200, 316);
-    try_check(11, 32, 18446744073709551615, 3, 200, 316);
-    try_check(4, 32, 11, 3, 200, 316);
-    try_check(11, 32, 4, 7, 200, 316);
     try_check(11, 32, 11, 7, 200, 316);
-    try_check(11, 32, 11, 18446744073709551615, 200, 316);
-    try_check(0, 32, 0, 0, 200, 316);
-    try_check(11, 32, 11, 7, 16385, 316);
     try_check(11, 32, 11, 3, 16385, 316);
-    try_check(11, 32, 11, 3, 4294967295, 316);
-    try_check(11, 32, 11, 3, 16385, 20);
-}
-
-// By 7 (exact), 9, likewise.
-fn try_lengths() {
-    try_check(11, 32, 11, 3, 16384, 316);
-    try_check(11, 32, 11, 3, 199, 316);
-    try_check(11, 32, 11, 3, 201, 316);
     try_check(11, 32, 11, 3, 200, 315);
     try_check(11, 32, 11, 3, 200, 317);
-    try_check(11, 32, 11, 3, 200, 20);
-    try_check(8589934591, 32, 8589934591, 0, 200, 316);
     try_check(11, 32, 11, 2, 200, 316);
-    try_check(11, 32, 11, 3, 168, 284);
 }
 
 pub(crate) fn show_all() {
-    try_trusted();
-    try_stated();
-    try_lengths();
+    try_rows();
 }

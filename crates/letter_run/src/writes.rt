@@ -1,4 +1,4 @@
-// Letters at the edges of the writer's order, of a log of seven records. After a refusal no byte of the output has changed.
+// Letters written of a log of seven records, and each refusal of the writer. After a refusal no byte of the output has changed.
 use crate::logs::changed_behind;
 use crate::logs::log_of;
 use crate::logs::output;
@@ -57,38 +57,19 @@ fn try_write(
     );
 }
 
-// Done and 6; then 1, 5, each at its edge and where a later one applies too.
-fn try_indexes(nodes: &[u8; 1216]) {
-    try_write(11, 3, 3, 200, 352, 400, nodes);
+// Done, then each refusal once: 6, 1, 5, 3, 4, 13.
+fn try_rows(nodes: &[u8; 1216]) {
     try_write(11, 3, 3, 200, 352, 316, nodes);
     try_write(11, 3, 3, 200, 352, 315, nodes);
-    try_write(11, 3, 3, 200, 352, 0, nodes);
     try_write(2, 3, 3, 200, 352, 400, nodes);
-    try_write(8589934592, 3, 3, 200, 352, 400, nodes);
-    try_write(2, 7, 3, 16385, 0, 0, nodes);
     try_write(11, 7, 3, 200, 352, 400, nodes);
-    try_write(11, 18446744073709551615, 3, 200, 352, 400, nodes);
-    try_write(0, 0, 3, 200, 352, 400, nodes);
-    try_write(11, 7, 3, 16385, 0, 0, nodes);
-}
-
-// Then 3, 4, 13, likewise.
-fn try_records(nodes: &[u8; 1216]) {
     try_write(11, 3, 3, 16385, 352, 400, nodes);
-    try_write(11, 3, 3, 16385, 0, 0, nodes);
     try_write(11, 3, 3, 200, 351, 400, nodes);
-    try_write(11, 3, 2, 200, 351, 0, nodes);
-    try_write(8589934591, 3, 3, 200, 352, 400, nodes);
-    try_write(8589934591, 4294967296, 3, 200, 352, 400, nodes);
     try_write(11, 3, 2, 200, 352, 400, nodes);
-    try_write(11, 3, 3, 199, 352, 400, nodes);
-    try_write(11, 2, 3, 200, 352, 400, nodes);
-    try_write(11, 3, 2, 200, 352, 0, nodes);
 }
 
 pub(crate) fn show_all() {
     let mut nodes = [0u8; 1216];
     log_of(7, &mut nodes);
-    try_indexes(&nodes);
-    try_records(&nodes);
+    try_rows(&nodes);
 }

@@ -1,4 +1,4 @@
-// A log of forty records over one buffer, then each refusal at its edge, to be compared with the second program's.
+// A log of forty records over one buffer, then each refusal, to be compared with the second program's.
 mod given;
 mod lines;
 
@@ -82,26 +82,13 @@ fn try_append(size: u64, n: usize, lent: usize, nodes: &mut [u8; 2624]) {
     show_whole(b"  after ", nodes);
 }
 
-// Sizes that no leaf count has, and the most leaves.
-fn try_sizes(nodes: &mut [u8; 2624]) {
+// Each refusal: 1, 2, 3, 4; then a record of 16,384 bytes in a buffer that just holds it, and one more.
+fn try_appends(nodes: &mut [u8; 2624]) {
     try_append(2, 0, 2624, nodes);
-    try_append(5, 0, 2624, nodes);
-    try_append(6, 0, 2624, nodes);
-    try_append(9, 0, 2624, nodes);
-    try_append(18446744073709551615, 0, 2624, nodes);
     try_append(8589934591, 0, 2624, nodes);
-    try_append(8589934592, 0, 2624, nodes);
-}
-
-// Where several refusals apply; a record and a buffer one byte too long or short, and just right.
-fn try_edges(nodes: &mut [u8; 2624]) {
-    try_append(2, 16385, 0, nodes);
-    try_append(8589934591, 16385, 0, nodes);
     try_append(78, 16385, 2624, nodes);
-    try_append(78, 16385, 0, nodes);
     try_append(78, 16384, 2527, nodes);
     try_append(78, 16384, 2528, nodes);
-    try_append(79, 0, 2591, nodes);
     try_append(79, 0, 2592, nodes);
 }
 
@@ -112,19 +99,12 @@ fn try_root(size: u64, lent: usize, nodes: &[u8; 2624]) {
     show_rooted(b": ", root_lent(size, nodes, lent));
 }
 
-// Roots at the edges, and of the log as it was before.
+// Each refusal: 1, 10, 4; then the root, and that of the log as it was before.
 fn try_roots(nodes: &[u8; 2624]) {
     try_root(2, 2624, nodes);
-    try_root(2, 0, nodes);
-    try_root(8589934592, 2624, nodes);
-    try_root(18446744073709551615, 2624, nodes);
     try_root(0, 2624, nodes);
-    try_root(0, 0, nodes);
     try_root(81, 2591, nodes);
     try_root(81, 2592, nodes);
-    try_root(8589934591, 2624, nodes);
-    try_root(1, 2624, nodes);
-    try_root(1, 31, nodes);
     try_root(78, 2624, nodes);
 }
 
@@ -134,8 +114,7 @@ fn first_buffer() {
     say(b"empty:\n");
     show_state(0, &nodes);
     run(&mut nodes, true);
-    try_sizes(&mut nodes);
-    try_edges(&mut nodes);
+    try_appends(&mut nodes);
     try_roots(&nodes);
     show_whole(b"after ", &nodes);
 }

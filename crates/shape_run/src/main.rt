@@ -69,14 +69,13 @@ fn show_positions() {
     show_position(4294967296);
 }
 
-// Sizes 0 to 20, the largest, the number behind it, and the largest of 64 bits.
+// Sizes 0 to 9, the largest, and the number behind it.
 fn show_counts() {
-    for size in 0..21 {
+    for size in 0..10 {
         show_leaves(size);
     }
     show_leaves(8589934591);
     show_leaves(8589934592);
-    show_leaves(18446744073709551615);
 }
 
 fn main() {

@@ -1,7 +1,7 @@
 -- `keeper::keeper_letter_write` meets its contract: what the writer answers, and the length where it is done.
 use native.Mathlib.Omega.{arith}
 use Rattle.digest.specs.Digest.{digestOf}
-use Rattle.letter_writer.specs.Outcome.{ourLetter, writeOrder, writeOutcome}
+use Rattle.letter_writer.specs.Outcome.{writeOutcome}
 use Rattle.keeper.specs.Letters.{letterWriteCall}
 use Rattle.keeper.proofs.Laws.{write-refused, write-done}
 use borrow.Author.Needs.{needs}
@@ -9,22 +9,20 @@ use Rattle.keeper.proofs.keeper_letter_write.Statement.{statement}
 use Rattle.keeper.proofs.keeper_letter_write.Tie as tie
 
 returns : tie.Need-returns
-unfolding letterWriteCall writeOutcome
+unfolding letterWriteCall
 returns c =
     let a = c .before .before .before .before .before .before .before .before .before .args in
     let w = c .before .before .before .before .write-letter in
-    write-refused (writeOrder digestOf (a .size) (a .index) (a .rec .now) (a .nodes .now) (a .out .now))
-    (ourLetter digestOf (a .size) (a .index) (a .rec .now) (a .nodes .now)) (a .out .now) (a .length .now) (w .result) _ (w .ensures)
-    (λ z. omega arith)
+    write-refused (writeOutcome digestOf (a .size) (a .index) (a .rec .now) (a .nodes .now) (a .out .now)) (a .length .now) (w .result) _
+    (w .ensures) (λ z. omega arith)
 
 returns-2 : tie.Need-returns-2
-unfolding letterWriteCall writeOutcome writeOrder
+unfolding letterWriteCall
 returns-2 c =
     let a = c .before .before .before .before .before .before .before .before .before .args in
     let w = c .before .before .before .before .write-letter in
-    write-done (writeOrder digestOf (a .size) (a .index) (a .rec .now) (a .nodes .now) (a .out .now))
-    (ourLetter digestOf (a .size) (a .index) (a .rec .now) (a .nodes .now)) (a .out .now) (a .length .now) (w .result) _ (w .ensures)
-    tt (omega arith)
+    write-done (writeOutcome digestOf (a .size) (a .index) (a .rec .now) (a .nodes .now) (a .out .now)) (a .length .now) (w .result) _
+    (w .ensures) (omega arith)
 
 pub keeper-letter-write-spec : {M : Type 1} → statement M
 keeper-letter-write-spec =

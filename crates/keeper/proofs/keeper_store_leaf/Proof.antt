@@ -1,8 +1,7 @@
 -- `keeper::keeper_store_leaf` meets its contract: what the writer answers, and the length where it is done.
 use native.Mathlib.Omega.{arith}
 use Rattle.digest.specs.Digest.{digestOf}
-use Rattle.stored.specs.Nodes.{leafBytes}
-use Rattle.stored.specs.Write.{leafOrder, leafOutcome}
+use Rattle.stored.specs.Write.{leafOutcome}
 use Rattle.keeper.specs.Nodes.{storeLeafCall}
 use Rattle.keeper.proofs.Laws.{write-refused, write-done}
 use borrow.Author.Needs.{needs}
@@ -10,20 +9,18 @@ use Rattle.keeper.proofs.keeper_store_leaf.Statement.{statement}
 use Rattle.keeper.proofs.keeper_store_leaf.Tie as tie
 
 returns : tie.Need-returns
-unfolding storeLeafCall leafOutcome
+unfolding storeLeafCall
 returns c =
     let a = c .before .before .before .before .before .before .before .before .args in
     let w = c .before .before .before .before .write-leaf in
-    write-refused (leafOrder (a .rec .now) (a .out .now)) (leafBytes digestOf (a .rec .now)) (a .out .now) (a .length .now) (w .result) _
-    (w .ensures) (λ z. omega arith)
+    write-refused (leafOutcome digestOf (a .rec .now) (a .out .now)) (a .length .now) (w .result) _ (w .ensures) (λ z. omega arith)
 
 returns-2 : tie.Need-returns-2
-unfolding storeLeafCall leafOutcome
+unfolding storeLeafCall
 returns-2 c =
     let a = c .before .before .before .before .before .before .before .before .args in
     let w = c .before .before .before .before .write-leaf in
-    write-done (leafOrder (a .rec .now) (a .out .now)) (leafBytes digestOf (a .rec .now)) (a .out .now) (a .length .now) (w .result) _
-    (w .ensures) tt (omega arith)
+    write-done (leafOutcome digestOf (a .rec .now) (a .out .now)) (a .length .now) (w .result) _ (w .ensures) (omega arith)
 
 pub keeper-store-leaf-spec : {M : Type 1} → statement M
 keeper-store-leaf-spec =

@@ -5,10 +5,10 @@ use Rattle.shape_run.proofs.show_counts.Statement.{statement}
 use Rattle.shape_run.proofs.show_counts.Tie as tie
 
 abbrev Inv-loop : tie.InvT-loop
-Inv-loop size₀ size = size ≤ 21
+Inv-loop size₀ size = size ≤ 10
 
 abbrev μ-loop : tie.MeasureT-loop
-μ-loop size₀ size = 21 - size
+μ-loop size₀ size = 10 - size
 
 pub show-counts-spec : {M : Type 1} → statement M
 show-counts-spec =
@@ -21,7 +21,6 @@ show-counts-spec =
     (λ c. search needs)
     (λ c. search needs)
     (λ c. search needs)
-    (λ c κs. search needs)
     (λ c κs. search needs)
     (λ c κs. search needs)
     (λ c. search needs))
