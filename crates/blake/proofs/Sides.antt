@@ -63,6 +63,9 @@ module _ (key : List ℕ) (flag root n : ℕ) (bs : List ℕ) where
       ∙ ap (λ (k : ℕ). treed k key flag root n bs) (add-comm (length bs) h)
       ∙ sym (tree-more (length bs) h (let p : length bs < 2 ^ length bs = lt-pow (length bs) in omega arith))
 
+  pub tree-same : (g h : ℕ) → length bs ≤ 1024 * 2 ^ g → length bs ≤ 1024 * 2 ^ h → treed g key flag root n bs ≡ treed h key flag root n bs
+  tree-same g h l m = tree-enough g l ∙ sym (tree-enough h m)
+
   -- more than 2 ^ k chunks and at most 2 ^ (k + 1) are split after the first 2 ^ k
   pub tree-split : (k : ℕ) → 1024 * 2 ^ k < length bs → length bs ≤ 1024 * 2 ^ suc k → treeOf key flag root n bs ≡ sides k
   tree-split k more most = sym (tree-enough (suc k) most) ∙ sym (long-suc k more)

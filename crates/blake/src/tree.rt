@@ -48,13 +48,11 @@ fn tree(h: u32, key: [u32; 8], flag: u32, root: u32, n: u64, bytes: &[u8]) -> [u
     requires { ⌜ Room h flag root n (length (now bytes)) ⌝ }
     ensures { λ r. ⌜ r ≡ treed h key flag root n (now (bytes .entry)) ⌝ }
 {
-    if h == 0 {
+    if bytes.len() <= 1024 {
         return chunk(key, flag, root, n, bytes);
     }
-    if h == 2 {
-        if bytes.len() == 4096 {
-            return quad(key, flag, root, n, bytes);
-        }
+    if bytes.len() == 4096 {
+        return quad(key, flag, root, n, bytes);
     }
     let below = h - 1;
     let chunks = power(below);
@@ -83,6 +81,9 @@ pub(crate) fn digest_in(key: [u32; 8], flag: u32, bytes: &[u8]) -> [u8; 32]
     requires { ⌜ flag ≤ 16 ⌝ }
     ensures { λ r. ⌜ r ≡ digested key flag (now (bytes .entry)) ⌝ }
 {
+    if bytes.len() <= 1024 {
+        return unload(chunk(key, flag, ROOT, 0, bytes));
+    }
     let h = height(bytes.len());
     unload(tree(h, key, flag, ROOT, 0, bytes))
 }

@@ -58,15 +58,14 @@ module _ (h flag root n p : ℕ) (bs : List ℕ) (some : h ≡ 0 → ⊥) (e : p
       ∙ ap (λ (x : ℕ). treed (h - 1) key flag 0 (n + x) (drop (1024 * x) bs)) e)
       ∙ tree-long key flag root n bs h some (omega arith)
 
-pub room-chunk : (h flag root n len : ℕ) → h ≡ 0 → Room h flag root n len → len ≤ 1024
-room-chunk h flag root n len e room =
+-- more than one chunk has a height
+pub room-some : (h flag root n len : ℕ) → Room h flag root n len → 1024 < len → h ≡ 0 → ⊥
+room-some h flag root n len room l e =
     let w : 2 ^ h ≡ 1 = ap (λ (k : ℕ). 2 ^ k) e in
-    omega arith
+    omega (arith, room .bytes)
 
-pub room-quad : (h flag root n len : ℕ) → h ≡ 2 → Room h flag root n len → n + 4 ≤ 2 ^ 54
-room-quad h flag root n len e room =
-    let w : 2 ^ h ≡ 4 = ap (λ (k : ℕ). 2 ^ k) e in
-    omega (arith, room .chunks)
+pub room-quad : (h flag root n len : ℕ) → Room h flag root n len → len ≡ 4096 → n + 4 ≤ 2 ^ 54
+room-quad h flag root n len room e = omega (arith, room .bytes, room .chunks)
 
 -- the height of a length, by its leading zeros
 pub high-enough : (len : ℕ) → 1024 < len → len < 2 ^ 64

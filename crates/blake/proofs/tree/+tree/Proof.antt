@@ -1,5 +1,5 @@
 -- The tree, by recursion on the height: `Sides` has what a height adds, `Rooms` the room that each call has.
-use mathlib.Core.Path.{sym, ap, _∙_}
+use mathlib.Core.Path.{_≡_, refl, sym, _∙_}
 use Prim.Native.Nat.{ℕ, _*_, _<_}
 use native.Mathlib.Omega.{arith}
 use lib.ListN.{length}
@@ -7,9 +7,8 @@ use lib.Seq.{length-take-le}
 use borrow.Author.Needs.{needs}
 use borrow.Fn.Kinds.{In}
 use borrow.Fn.PlainCycle.{Measures, is, falls, and}
-use Rattle.blake.specs.Blake.{treed}
-use Rattle.blake.proofs.Sides.{tree-chunk}
-use Rattle.blake.proofs.tree.Rooms.{room-short, room-left, room-right, room-chunk, room-quad, fits-short, fits-long}
+use Rattle.blake.proofs.Sides.{tree-chunk, tree-same}
+use Rattle.blake.proofs.tree.Rooms.{room-some, room-short, room-left, room-right, room-quad, fits-short, fits-long}
 use Rattle.blake.proofs.tree.tree.Reads as tree
 use Rattle.blake.proofs.tree.tree.Kinds as tree-kinds
 use Rattle.blake.proofs.tree.+tree.Lts-tree as tree-lts
@@ -30,6 +29,16 @@ tree-at t = and 1 tree-kinds.ps (is 1 tree-kinds.ps μ-tree t) tree.Pre
 abbrev tree-below : ℕ → In 1 tree-kinds.ps
 tree-below t = and 1 tree-kinds.ps (falls 1 tree-kinds.ps _<_ μ-tree t) tree.Pre
 
+-- more than one chunk has a height
+some : (t : ℕ) (c : tree-lts.Else1
+    (chunk.Asked, chunk.Learnt, quad.Asked, quad.Learnt, power.Asked, power.Learnt, tree-below t, tree.Post, parent.Asked, parent.Learnt)
+    (tree-at t) tree.Post)
+    → c .before .before .args .h ≡ 0 → ⊥
+some t c =
+    let start = c .before .before in
+    let k = start .args in
+    room-some (k .h) (k .flag) (k .root) (k .n) (length (k .bytes .now)) (start .pre .1) (c .if1 .left)
+
 pub +tree-spec : {M : Type 1} → statement M
 +tree-spec =
     close μ-tree
@@ -38,23 +47,25 @@ pub +tree-spec : {M : Type 1} → statement M
     (tree-at t)
     tree.Post
     -- one chunk
-    (λ c κs.
-    let k = c .before .before .args in
-    let room = c .before .before .pre .1 in
-    (room .mode, room .last, room-chunk (k .h) (k .flag) (k .root) (k .n) (length (k .bytes .now)) (c .if1 .taken) room))
+    (λ c κs. let room = c .before .before .pre .1 in (room .mode, room .last, c .if1 .taken))
     (λ c.
-    let k = c .before .before .before .args in
-    c .chunk .ensures ∙ tree-chunk (k .h) (k .key) (k .flag) (k .root) (k .n) (k .bytes .now) (c .before .if1 .taken))
+    let start = c .before .before .before in
+    let k = start .args in
+    c .chunk .ensures
+    ∙ tree-chunk 0 (k .key) (k .flag) (k .root) (k .n) (k .bytes .now) refl
+    ∙ tree-same (k .key) (k .flag) (k .root) (k .n) (k .bytes .now) 0 (k .h) (omega (arith, c .before .if1 .taken)) (start .pre .1 .bytes))
     -- four whole chunks
     (λ c κs.
-    let k = c .before .before .before .before .args in
-    let room = c .before .before .before .before .pre .1 in
-    (room .mode, room .last, c .if3 .taken, room-quad (k .h) (k .flag) (k .root) (k .n) (length (k .bytes .now)) (c .before .if2 .taken) room))
+    let k = c .before .before .before .args in
+    let room = c .before .before .before .pre .1 in
+    (room .mode, room .last, c .if2 .taken, room-quad (k .h) (k .flag) (k .root) (k .n) (length (k .bytes .now)) room (c .if2 .taken)))
     (λ c.
-    let k = c .before .before .before .before .before .args in
-    c .quad .ensures ∙ ap (λ (j : ℕ). treed j (k .key) (k .flag) (k .root) (k .n) (k .bytes .now)) (sym (c .before .before .if2 .taken)))
+    let start = c .before .before .before .before in
+    let k = start .args in
+    c .quad .ensures
+    ∙ tree-same (k .key) (k .flag) (k .root) (k .n) (k .bytes .now) 2 (k .h) (omega (arith, c .before .if2 .taken)) (start .pre .1 .bytes))
     -- below
-    (λ c. search needs)
+    (λ c. let s = some t (c .before) in omega (arith, s))
     -- chunks
     (λ c κs. search needs)
     -- left
@@ -63,18 +74,19 @@ pub +tree-spec : {M : Type 1} → statement M
     (λ c κs.
     let start = c .before .before .before .before .before in
     let k = start .args in
-    let p = c .before .power in (
-      omega arith,
-      room-short (k .h) (k .flag) (k .root) (k .n) (p .result) (k .bytes .now) (c .before .before .before .if1 .left) (p .ensures .0)
-          (start .pre .1) (c .if4 .taken),
+    let p = c .before .power in
+    let s = some t (c .before .before .before) in (
+      omega (arith, start .pre .0, s),
+      room-short (k .h) (k .flag) (k .root) (k .n) (p .result) (k .bytes .now) s (p .ensures .0)
+          (start .pre .1) (c .if3 .taken),
     ))
     (λ c.
     let start = c .before .before .before .before .before .before in
     let k = start .args in
     let p = c .before .before .power in
     c .tree .ensures
-    ∙ fits-short (k .h) (k .flag) (k .root) (k .n) (p .result) (k .bytes .now) (c .before .before .before .before .if1 .left) (p .ensures .0)
-    (start .pre .1) (k .key) (c .before .if4 .taken))
+    ∙ fits-short (k .h) (k .flag) (k .root) (k .n) (p .result) (k .bytes .now) (some t (c .before .before .before .before)) (p .ensures .0)
+    (start .pre .1) (k .key) (c .before .if3 .taken))
     -- the left side
     (λ c.
     let k = c .before .before .before .before .before .before .args in
@@ -83,10 +95,11 @@ pub +tree-spec : {M : Type 1} → statement M
     (λ c κs.
     let start = c .before .before .before .before .before .before in
     let k = start .args in
-    let p = c .before .before .power in (
-      omega arith,
-      room-left (k .h) (k .flag) (k .root) (k .n) (p .result) (k .bytes .now) (c .before .before .before .before .if1 .left)
-          (p .ensures .0) (start .pre .1) (c .before .if4 .left),
+    let p = c .before .before .power in
+    let s = some t (c .before .before .before .before) in (
+      omega (arith, start .pre .0, s),
+      room-left (k .h) (k .flag) (k .root) (k .n) (p .result) (k .bytes .now) s
+          (p .ensures .0) (start .pre .1) (c .before .if3 .left),
     ))
     -- the right side
     (λ c. search needs)
@@ -97,10 +110,10 @@ pub +tree-spec : {M : Type 1} → statement M
     let start = c .before .before .before .before .before .before .before .before in
     let k = start .args in
     let p = c .before .before .before .before .power in
-    let some = c .before .before .before .before .before .before .if1 .left in (
-      omega (arith, start .pre .0, some),
-      room-right (k .h) (k .flag) (k .root) (k .n) (p .result) (k .bytes .now) some (p .ensures .0)
-          (start .pre .1) (c .before .before .before .if4 .left),
+    let s = some t (c .before .before .before .before .before .before) in (
+      omega (arith, start .pre .0, s),
+      room-right (k .h) (k .flag) (k .root) (k .n) (p .result) (k .bytes .now) s (p .ensures .0)
+          (start .pre .1) (c .before .before .before .if3 .left),
     ))
     -- the parent of both
     (λ c κs. search needs)
@@ -108,7 +121,7 @@ pub +tree-spec : {M : Type 1} → statement M
     let start = c .before .before .before .before .before .before .before .before .before .before in
     let k = start .args in
     let p = c .before .before .before .before .before .before .power in
-    let some = c .before .before .before .before .before .before .before .before .if1 .left in
+    let s = some t (c .before .before .before .before .before .before .before .before) in
     c .parent .ensures
-    ∙ fits-long (k .h) (k .flag) (k .root) (k .n) (p .result) (k .bytes .now) some (p .ensures .0) (start .pre .1) (k .key) _ _
-    (c .before .before .before .before .before .if4 .left) (c .before .before .before .tree2 .ensures) (c .before .tree3 .ensures)))
+    ∙ fits-long (k .h) (k .flag) (k .root) (k .n) (p .result) (k .bytes .now) s (p .ensures .0) (start .pre .1) (k .key) _ _
+    (c .before .before .before .before .before .if3 .left) (c .before .before .before .tree2 .ensures) (c .before .tree3 .ensures)))
