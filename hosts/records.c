@@ -50,7 +50,7 @@ static int open_file(Records *records, Mapped *mapped, const char *path, const c
     mapped->file = open(path, (mapped->writing ? O_RDWR : O_RDONLY) | O_NOFOLLOW | O_NONBLOCK | O_CLOEXEC);
     if (mapped->file < 0 && errno == ENOENT && asked) {
         mapped->file = make_file(path, name, records->first);
-        records->made = 1;
+        records->made[mapped == &records->ends] = mapped->file >= 0;
     }
     if (mapped->file < 0 && errno == ENOENT && !asked) return 0;
     if (mapped->file < 0) fail("cannot open %s: %s", path, errno == ELOOP ? "it is a link" : strerror(errno));
@@ -83,23 +83,36 @@ static void take_count(Records *records, uint64_t leaves) {
     if (records->bytes.length - HEAD < records->end) fail("%s was cut, or %s was changed: take their copies", records->bytes_path, records->ends_path);
 }
 
+/* LOG.index is made first and LOG.records is opened first: so a reader beside the program that makes them finds none, or both. Whether both are there;
+   an index with nothing in it, alone, is what a crash has left of making them. */
+static int open_both(Records *records, int asked) {
+    int ends = records->ends.writing && open_file(records, &records->ends, records->ends_path, ends_name, asked);
+    if (ends && !records->made[1]) records->first = first_in(&records->ends, ends_name);
+    int bytes = open_file(records, &records->bytes, records->bytes_path, bytes_name, asked);
+    if (!ends) ends = open_file(records, &records->ends, records->ends_path, ends_name, 0);
+    if (bytes && !ends) fail("%s is missing: take its copy", records->ends_path);
+    return bytes ? 1 : ends && records->ends.length > HEAD ? -1 : 0;
+}
+
 void records_open(Records *records, const char *log, uint64_t leaves, int writing, int asked) {
     *records = (Records){.first = leaves};
     records->bytes_path = path_beside(log, ".records");
     records->ends_path = path_beside(log, ".index");
     records->bytes.writing = records->ends.writing = writing;
     records->bytes.file = records->ends.file = -1;
-    int there = open_file(records, &records->bytes, records->bytes_path, bytes_name, asked);
-    records->open = open_file(records, &records->ends, records->ends_path, ends_name, asked);
-    if (there != records->open) fail("one of %s and %s is missing: take its copy", records->bytes_path, records->ends_path);
-    if (records->open) take_count(records, leaves);
+    int there = open_both(records, asked);
+    if (there < 0) {
+        map_close(&records->ends);
+        there = open_both(records, asked);
+    }
+    if (there < 0) fail("%s is missing: take its copy", records->bytes_path);
+    records->open = there;
+    if (there) take_count(records, leaves);
 }
 
 void records_close(Records *records) {
-    if (records->made) {
-        fresh_remove(records->bytes_path, records->bytes.file);
-        fresh_remove(records->ends_path, records->ends.file);
-    }
+    if (records->made[0]) fresh_remove(records->bytes_path, records->bytes.file);
+    if (records->made[1]) fresh_remove(records->ends_path, records->ends.file);
     map_close(&records->bytes);
     map_close(&records->ends);
     free(records->bytes_path);

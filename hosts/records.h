@@ -10,7 +10,8 @@ typedef struct {
     uint64_t first;           /* the index of the first record that is kept here: the log may be older */
     uint64_t count, end;      /* records here, and where the next one begins */
     uint64_t kept, kept_end;  /* those on disk */
-    int open, made;           /* made: by this program, which takes them back unless something is kept */
+    int open;
+    int made[2];              /* which of the two this program has made, and takes back unless something is kept */
 } Records;
 
 /* The records beside a log of so many: open where there are some, and to write also made where they are asked for. Fails, with words, where the two

@@ -228,7 +228,7 @@ void store_open(Store *store, const char *path, Purpose purpose, double wait) {
 }
 
 void store_stays(Store *store) {
-    store->made = store->records.made = 0;
+    store->made = store->records.made[0] = store->records.made[1] = 0;
     if (unfinished == store) unfinished = NULL;
 }
 

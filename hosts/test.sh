@@ -12,8 +12,7 @@ export PYTHONDONTWRITEBYTECODE=1
 LOSSY=$top/target/hosts/lossy KEEPER=$top/target/hosts/keeper python3 -m unittest "$@"
 if [ -x "$top/target/hosts/checked" ]; then
     echo "once more, under sanitizers" >&2
-    # what a program that ends has not given back is of no interest, and looking for it takes seconds on some machines
-    CHECKED=yes KEEPER=$top/target/hosts/checked ASAN_OPTIONS=detect_leaks=0 python3 -m unittest "$@"
+    CHECKED=yes KEEPER=$top/target/hosts/checked python3 -m unittest "$@"
 else
     echo "not tried under sanitizers: the compiler has none here" >&2
 fi

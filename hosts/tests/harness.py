@@ -22,6 +22,8 @@ from rules import letters, log, shape  # noqa: E402, F401
 from rules.log import LONGEST_RECORD, NODE  # noqa: E402, F401
 from rules.shape import nodes_of  # noqa: E402
 
+# what a program that ends has not given back is of no interest, and looking for it takes seconds on some machines
+os.environ.setdefault("ASAN_OPTIONS", "detect_leaks=0")
 KEEPER = os.environ.get("KEEPER", str(TOP / "target" / "hosts" / "keeper"))
 LOSSY = os.environ.get("LOSSY")
 CHECKED = "CHECKED" in os.environ
