@@ -1,6 +1,8 @@
 # A program of the crates, proved and built where a source is newer, and run. A script sets top, the repository, before it takes this in.
 # shellcheck shell=sh disable=SC2154
 . "$top/shell/built.sh"
+. "$top/shell/runs.sh"
+run=$top/target/run
 say() { echo "${0##*/}: $*" >&2; }
 die() { say "$*"; exit 2; }
 
@@ -19,11 +21,4 @@ build() {
     copy_runner
     was_built "target/bin/$1" "$sum"
     exec 9<&-
-}
-
-# with_program WORD..: the words, then those that start the program. Programs are x86-64 code: on another machine an emulator runs it.
-with_program() {
-    run=${run:-$top/target/run}
-    if [ -x "$run/qemu-x86_64" ]; then set -- "$@" "$run/qemu-x86_64"; fi
-    "$@" "$run/ld-linux-x86-64.so.2" --library-path "$run" "$program"
 }
