@@ -34,7 +34,7 @@ theirs() {
     name=$1
     shift
     objects=
-    for source in "$blake3/blake3.c" "$blake3/blake3_dispatch.c" "$blake3/blake3_portable.c" "$here/theirs.c"; do
+    for source in "$blake3/blake3.c" "$blake3/blake3_dispatch.c" "$blake3/blake3_portable.c" ${more_sources-} "$here/theirs.c"; do
         object=$work/$name-$(basename "$source" .c).o
         # shellcheck disable=SC2086
         "$@" $flags -DNAME="${name}_digest" -I"$work/include" -I"$blake3" -c "$source" -o "$object"

@@ -37,12 +37,12 @@ static void begin(Work *work, const Asked *asked) {
     work->kept_at = work->progress.begun;
 }
 
-static uint32_t append_record(Work *work) {
-    uint32_t number = store_append(&work->log, record.bytes, record.length);
+static uint32_t append_record(Work *work, const uint8_t *bytes, size_t length) {
+    uint32_t number = store_append(&work->log, bytes, length);
     if (number == STORE_FULL) work->error = errno;
     if (number != KEEPER_DONE) return number;
     work->records++;
-    work->bytes += record.length;
+    work->bytes += length;
     return number;
 }
 
@@ -93,7 +93,7 @@ static int append_files(const Asked *asked, char *const *paths, size_t count) {
     begin(&work, asked);
     for (size_t i = 0; i < count; i++) {
         if (count > 1) read_input(&record, paths[i], LONGEST_RECORD + 1);
-        uint32_t number = append_record(&work);
+        uint32_t number = append_record(&work, record.bytes, record.length);
         if (number == STORE_FULL) fail("cannot make %s longer: %s. Nothing was appended", asked->words[0], strerror(work.error));
         if (number != KEEPER_DONE && paths[i]) note("%s cannot be appended, and so nothing was", paths[i]);
         if (number != KEEPER_DONE) {
@@ -140,13 +140,15 @@ static int say_end(const Work *work, const Stream *stream, Next next, uint32_t n
 static int append_stream(const Asked *asked) {
     static Stream stream;
     Work work;
+    const uint8_t *bytes;
+    size_t length;
     uint32_t number = KEEPER_DONE;
     Next next = A_RECORD;
     begin(&work, asked);
     stream.pause = pause_of;
     stream.of = &work;
-    while (number == KEEPER_DONE && work.error == 0 && (next = next_record(&stream, &record)) == A_RECORD) {
-        number = append_record(&work);
+    while (number == KEEPER_DONE && work.error == 0 && (next = next_record(&stream, &bytes, &length)) == A_RECORD) {
+        number = append_record(&work, bytes, length);
         if (number == KEEPER_DONE && work.records % KEEP_RECORDS == 0) keep(&work);
     }
     if (work.error == 0 || number == STORE_FULL) {

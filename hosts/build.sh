@@ -17,7 +17,7 @@ here=$top/hosts
 # shellcheck source=hosts/sources.sh
 . "$top/hosts/sources.sh"
 out=$top/target/hosts
-flags="-std=c11 -D_DEFAULT_SOURCE -O2 -g -Wall -Wextra -Werror -DVERSION=\"$(cat "$top/VERSION")\""
+flags="-std=c11 -D_DEFAULT_SOURCE -O2 -g -Wall -Wextra -Werror -DVERSION=$(cat "$top/VERSION")"
 sanitizers='-fsanitize=address,undefined -fno-sanitize-recover=all'
 
 # find_compiler: CC, where it is named, must be there, and must make x86-64 code to be used
@@ -53,8 +53,10 @@ start_by_emulator() {
     [ -x "$top/target/run/qemu-x86_64" ] || die "the kit has no emulator for $machine"
     {
         printf '#!/bin/sh\n# starts the program beside it, which is x86-64 code, under the emulator in ../run\n'
+        # shellcheck disable=SC2016
         printf 'here=$(readlink -f -- "$0")\n'
         grep -v '^#' "$top/shell/streams.sh"
+        # shellcheck disable=SC2016
         printf 'exec "${here%%/*/*}/run/qemu-x86_64" "$here.x86_64" "$@"\n'
     } >"${program%.x86_64}.new"
     chmod +x "${program%.x86_64}.new"
@@ -73,6 +75,16 @@ compile_checked() {
     [ "$machine" = x86_64 ] || with=tests/stand_in.c
     # shellcheck disable=SC2086
     (cd "$here" && $own $flags $sanitizers -I"$top/include" $host_files $with -o "$out/checked") || die "checked was not built"
+}
+
+# The compiler's own look at every way through the host, where the machine's compiler can take it.
+analyze() {
+    echo 'int main(void) { return 0; }' >"$work/empty.c"
+    gcc -fanalyzer "$work/empty.c" -o "$work/empty" 2>/dev/null || return 0
+    for file in $host_files; do
+        # shellcheck disable=SC2086
+        (cd "$here" && gcc $flags -fanalyzer -I"$top/include" -c "$file" -o "$work/analyzed.o") || die "$file is not clean"
+    done
 }
 
 # programs_built LAST: whether all up to that one are built
@@ -105,6 +117,7 @@ compile keeper $host_files
 compile bridge "$top/outside/bridge.c"
 was_built target/hosts/keeper "$sum"
 if [ "${1-}" = test ]; then
+    analyze
     compile_checked
     # shellcheck disable=SC2086
     compile lossy -Wl,--wrap=mmap,--wrap=msync,--wrap=pwrite,--wrap=fdatasync,--wrap=fsync $host_files tests/lossy.c

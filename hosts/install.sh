@@ -25,7 +25,10 @@ put() {
 
 # put_script PLACE: a command from standard input
 put_script() {
-    mkdir -p "$to/${1%/*}" && cat >"$to/$1.new" && chmod 755 "$to/$1.new" && mv "$to/$1.new" "$to/$1" || die "cannot write $to/$1"
+    mkdir -p "$to/${1%/*}" || die "cannot make $to/${1%/*}"
+    cat >"$to/$1.new" || die "cannot write $to/$1"
+    chmod 755 "$to/$1.new"
+    mv "$to/$1.new" "$to/$1"
 }
 
 for file in "$top"/target/run/*; do put 755 "$file" "lib/cinchcleat/${file##*/}"; done

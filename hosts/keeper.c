@@ -7,8 +7,11 @@
 #include "say.h"
 #include "start.h"
 
+/* The version is given to the compiler as it stands in the file VERSION. */
+#define TEXT(X) #X
+#define TEXT_OF(X) TEXT(X)
 #ifndef VERSION
-#define VERSION "unknown"
+#define VERSION unknown
 #endif
 
 static const char usage[] =
@@ -47,8 +50,8 @@ static int help(const Asked *asked) {
 
 static int version(const Asked *asked) {
     (void)asked;
-    line("keeper (Cinchcleat) %s", VERSION);
-    put_text("version", VERSION);
+    line("keeper (Cinchcleat) %s", TEXT_OF(VERSION));
+    put_text("version", TEXT_OF(VERSION));
     return DONE;
 }
 

@@ -16,7 +16,7 @@ static const char style[] =
     ".refused header{border:8px double #a40e26;background:#ffebe9}.refused h1{color:#a40e26}"
     ".mark{display:none}.refused .mark{display:block;position:fixed;top:40%;left:0;right:0;text-align:center;font-size:7rem;font-weight:800;"
     "letter-spacing:.1em;color:#a40e26;opacity:.14;transform:rotate(-24deg);pointer-events:none}"
-    "table{border-collapse:collapse;width:100%}th,td{text-align:left;vertical-align:top;padding:.2rem .6rem .2rem 0}th{font-weight:600;white-space:nowrap}"
+    "table{border-collapse:collapse;width:100%}th,td{text-align:left;vertical-align:top;padding:.2rem .6rem .2rem 0}th{font-weight:600;white-space:nowrap;width:1px}"
     "code,pre{font:13px/1.4 ui-monospace,monospace;overflow-wrap:anywhere;white-space:pre-wrap}"
     "pre{border:1px solid #818b98;border-radius:4px;padding:.8rem;margin:.4rem 0}.refused pre{border:2px dashed #a40e26}"
     "tr.result td,tr.result th{border-bottom:1px solid #d1d9e0;padding-bottom:.5rem}.is-given{color:#7a4d00}.is-worked{color:#0a4fb0}"
@@ -52,7 +52,8 @@ static void put_head(FILE *out, const Verdict *verdict) {
           "<meta name=\"viewport\" content=\"width=device-width\">\n", out);
     if (accepted) fprintf(out, "<title>ACCEPTED: the record with index %" PRIu64 "</title>\n", verdict->view->index);
     else fprintf(out, "<title>REFUSED, number %u: a letter that proves nothing</title>\n", (unsigned)verdict->number);
-    fprintf(out, "<style>%s</style>\n</head>\n<body>\n<div class=\"mark\" aria-hidden=\"true\">%s</div>\n<header id=\"verdict\">\n<h1>%s</h1>\n", style, word, word);
+    fprintf(out, "<style>%s</style>\n</head>\n<body>\n<div class=\"mark\" aria-hidden=\"true\">%s</div>\n", style, word);
+    fprintf(out, "<header id=\"verdict\">\n<h1>%s</h1>\n", word);
     if (accepted)
         fprintf(out, "<p>The record below is the one that was logged at index %" PRIu64 " of the log whose size and root were noted.</p>\n</header>\n",
                 verdict->view->index);
@@ -115,7 +116,7 @@ static void put_way(FILE *out, const Verdict *verdict) {
     char worked[2 * NODE + 1];
     hex_of(viewed_root(view), NODE, worked);
     fprintf(out, "<section>\n<h2>The way from the record to the root%s</h2>\n", verdict->number == KEEPER_DONE ? "" : " that this letter gives");
-    fputs("<p>Each triangle is a peak of the log, with the number of its records below it. Squares are digests that the letter gives, numbered circles "
+    fputs("<p>Each mountain is a peak of the log, with the number of its records below it. Squares are digests that the letter gives, numbered circles "
           "those that were worked out, in this order; a circle is the digest of the two below it.</p>\n", out);
     draw_range(out, view);
     fputs("</section>\n<section>\n<h2>Each digest</h2>\n<table>\n<tr><th colspan=\"3\">1, the record</th></tr>\n", out);

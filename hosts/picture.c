@@ -2,7 +2,7 @@
 #include <inttypes.h>
 #include "picture.h"
 
-enum { PEAKS = 33, WIDTH = 760, MARGIN = 20, FOLD_ROW = 34, ROW_FLOOR = 60, ROW_ROOM = 210 };
+enum { PEAKS = 33, WIDTH = 760, MARGIN = 20, FOLD_ROW = 34, TOP_ROOM = 40, ABOVE = 30, ROW_ROOM = 210 };
 
 /* A peak: its height, the index of its first leaf, where its foot begins and ends, and its top. */
 typedef struct {
@@ -31,7 +31,7 @@ static void place_peaks(Drawing *drawing) {
         first += (uint64_t)1 << height;
         weights += height + 1;
     }
-    drawing->base = 50 + FOLD_ROW * folds + ROW_FLOOR + (tallest ? ROW_ROOM : 0);
+    drawing->base = TOP_ROOM + (folds ? ABOVE + FOLD_ROW * (folds - 1) : 0) + (tallest ? ROW_ROOM : 0);
     double from = MARGIN, each = (double)(WIDTH - 2 * MARGIN) / weights;
     for (int i = 0; i < drawing->count; i++) {
         Peak *peak = &drawing->peaks[i];
@@ -68,11 +68,23 @@ static double up(const Drawing *drawing, unsigned height) {
     return own->height == 0 ? own->y : drawing->base - (drawing->base - own->y) * height / own->height;
 }
 
+/* A mountain's side goes through the outermost node of each height, so that all of its nodes are inside. */
+static void draw_side(const Drawing *drawing, const Peak *peak, int right) {
+    for (unsigned i = 0; i <= peak->height; i++) {
+        unsigned k = right ? peak->height - i : i;
+        double in = (peak->to - peak->from) / 2 * (double)((uint64_t)1 << k) / (double)((uint64_t)1 << peak->height);
+        double y = peak->height ? drawing->base - (drawing->base - peak->y) * k / peak->height : peak->y;
+        fprintf(drawing->out, " %.1f,%.1f", right ? peak->to - in + (k < peak->height ? 9 : 0) : peak->from + in - (k < peak->height ? 9 : 0), y - 13);
+    }
+}
+
 static void draw_mountains(const Drawing *drawing) {
     for (int i = 0; i < drawing->count; i++) {
         const Peak *peak = &drawing->peaks[i];
-        fprintf(drawing->out, "<polygon class=\"%s\" points=\"%.1f,%.1f %.1f,%.1f %.1f,%.1f\"/>\n", i == drawing->own ? "own" : "other", peak->from + 1,
-                drawing->base + 12, peak->to - 1, drawing->base + 12, peak->x, peak->y - 14);
+        fprintf(drawing->out, "<polygon class=\"%s\" points=\"%.1f,%.1f", i == drawing->own ? "own" : "other", peak->from + 1, drawing->base + 13);
+        draw_side(drawing, peak, 0);
+        draw_side(drawing, peak, 1);
+        fprintf(drawing->out, " %.1f,%.1f\"/>\n", peak->to - 1, drawing->base + 13);
         if (peak->to - peak->from > 36)
             fprintf(drawing->out, "<text class=\"word\" x=\"%.1f\" y=\"%.1f\">%" PRIu64 "</text>\n", peak->x, drawing->base + 30, (uint64_t)1 << peak->height);
     }
@@ -94,7 +106,7 @@ static void draw_way(const Drawing *drawing) {
 static void draw_folds(const Drawing *drawing) {
     const View *view = drawing->view;
     const Peak *own = &drawing->peaks[drawing->own];
-    double x = own->x, y = own->y, top = drawing->base - (view->items > 0 ? ROW_ROOM : 0) - 30;
+    double x = own->x, y = own->y, top = drawing->base - (view->items > 0 ? ROW_ROOM : 0) - ABOVE;
     int left = drawing->own;
     for (unsigned k = view->height; k < view->items; k++) {
         int is_right = view->steps[k].kind == RIGHT_PEAKS;
@@ -105,7 +117,7 @@ static void draw_folds(const Drawing *drawing) {
         draw_line(drawing, "way", x, y, next_x, next_y);
         draw_line(drawing, "edge", given_x, given_y, next_x, next_y);
         draw_given(drawing, given_x, given_y);
-        if (k > view->height || view->height == 0) draw_worked(drawing, x, y, k + 1);
+        draw_worked(drawing, x, y, k + 1);
         draw_worked(drawing, next_x, next_y, k + 2);
         x = next_x;
         y = next_y;

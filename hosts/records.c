@@ -46,8 +46,8 @@ static int make_file(const char *path, const char *name, uint64_t first) {
 
 /* Opens a file, or makes it: whether it is there. */
 static int open_file(Records *records, Mapped *mapped, const char *path, const char *name, int asked) {
-    *mapped = (Mapped){.path = path, .writing = mapped->writing, .file = -1};
-    mapped->file = open(path, (mapped->writing ? O_RDWR : O_RDONLY) | O_NOFOLLOW | O_NONBLOCK | O_CLOEXEC);
+    *mapped = (Mapped){.path = path, .file = -1};
+    mapped->file = open(path, (records->writing ? O_RDWR : O_RDONLY) | O_NOFOLLOW | O_NONBLOCK | O_CLOEXEC);
     if (mapped->file < 0 && errno == ENOENT && asked) {
         mapped->file = make_file(path, name, records->first);
         records->made[mapped == &records->ends] = mapped->file >= 0;
@@ -83,10 +83,16 @@ static void take_count(Records *records, uint64_t leaves) {
     if (records->bytes.length - HEAD < records->end) fail("%s was cut, or %s was changed: take their copies", records->bytes_path, records->ends_path);
 }
 
+/* What fits the log, and not before. */
+static void map_to_write(Records *records) {
+    records->bytes.writing = records->ends.writing = 1;
+    if (map_whole(&records->bytes, HEAD) != 0 || map_whole(&records->ends, HEAD) != 0) fail("cannot map %s: %s", records->bytes_path, strerror(errno));
+}
+
 /* LOG.index is made first and LOG.records is opened first: so a reader beside the program that makes them finds none, or both. Whether both are there;
    an index with nothing in it, alone, is what a crash has left of making them. */
 static int open_both(Records *records, int asked) {
-    int ends = records->ends.writing && open_file(records, &records->ends, records->ends_path, ends_name, asked);
+    int ends = records->writing && open_file(records, &records->ends, records->ends_path, ends_name, asked);
     if (ends && !records->made[1]) records->first = first_in(&records->ends, ends_name);
     int bytes = open_file(records, &records->bytes, records->bytes_path, bytes_name, asked);
     if (!ends) ends = open_file(records, &records->ends, records->ends_path, ends_name, 0);
@@ -95,10 +101,9 @@ static int open_both(Records *records, int asked) {
 }
 
 void records_open(Records *records, const char *log, uint64_t leaves, int writing, int asked) {
-    *records = (Records){.first = leaves};
+    *records = (Records){.first = leaves, .writing = writing};
     records->bytes_path = path_beside(log, ".records");
     records->ends_path = path_beside(log, ".index");
-    records->bytes.writing = records->ends.writing = writing;
     records->bytes.file = records->ends.file = -1;
     int there = open_both(records, asked);
     if (there < 0) {
@@ -108,6 +113,7 @@ void records_open(Records *records, const char *log, uint64_t leaves, int writin
     if (there < 0) fail("%s is missing: take its copy", records->bytes_path);
     records->open = there;
     if (there) take_count(records, leaves);
+    if (there && writing) map_to_write(records);
 }
 
 void records_close(Records *records) {

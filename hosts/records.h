@@ -10,7 +10,7 @@ typedef struct {
     uint64_t first;           /* the index of the first record that is kept here: the log may be older */
     uint64_t count, end;      /* records here, and where the next one begins */
     uint64_t kept, kept_end;  /* those on disk */
-    int open;
+    int open, writing;
     int made[2];              /* which of the two this program has made, and takes back unless something is kept */
 } Records;
 

@@ -37,11 +37,25 @@ static Next take(Stream *stream, uint8_t *bytes, size_t count, size_t taken) {
     return A_RECORD;
 }
 
-Next next_record(Stream *stream, Input *record) {
+static size_t length_in(const uint8_t head[4]) {
+    size_t stated = (size_t)head[0] << 24 | (size_t)head[1] << 16 | (size_t)head[2] << 8 | head[3];
+    return stated > LONGEST_RECORD ? LONGEST_RECORD + 1 : stated;
+}
+
+/* A record that lies whole in what was read stays where it is; another is put together apart. */
+Next next_record(Stream *stream, const uint8_t **record, size_t *length) {
     uint8_t head[4];
+    const uint8_t *at = stream->bytes + stream->from;
+    size_t there = stream->to - stream->from;
+    if (there >= sizeof head && there - sizeof head >= length_in(at)) {
+        *record = at + sizeof head;
+        *length = length_in(at);
+        stream->from += sizeof head + *length;
+        return A_RECORD;
+    }
     Next next = take(stream, head, sizeof head, 0);
     if (next != A_RECORD) return next;
-    size_t stated = (size_t)head[0] << 24 | (size_t)head[1] << 16 | (size_t)head[2] << 8 | head[3];
-    record->length = stated > LONGEST_RECORD ? LONGEST_RECORD + 1 : stated;
-    return take(stream, record->bytes, record->length, sizeof head);
+    *record = stream->apart.bytes;
+    *length = length_in(head);
+    return take(stream, stream->apart.bytes, *length, sizeof head);
 }

@@ -10,11 +10,12 @@ typedef struct {
     int (*pause)(void *of, int quiet);
     void *of;
     int error; /* errno of a read that failed */
+    Input apart;
 } Stream;
 
-/* The next record, cut behind its first LONGEST_RECORD + 1 bytes, or how the stream has ended: behind a record, within one, because a signal or the
-   caller asked for it, or by a read that failed. */
+/* The next record, as a part of the stream's own bytes, good until the next call, and cut behind its first LONGEST_RECORD + 1 bytes; or how the stream has
+   ended: behind a record, within one, because a signal or the caller asked for it, or by a read that failed. */
 typedef enum { A_RECORD, ENDED, BROKEN, STOPPED, UNREADABLE } Next;
-Next next_record(Stream *stream, Input *record);
+Next next_record(Stream *stream, const uint8_t **record, size_t *length);
 
 #endif

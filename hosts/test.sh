@@ -7,12 +7,14 @@ here=$(readlink -f -- "$0")
 top=${here%/*/*}
 "$top/hosts/build.sh" test
 cd "$top/hosts/tests"
-[ $# -gt 0 ] || set -- $(ls test_*.py | sed 's/\.py$//')
+if [ $# = 0 ]; then
+    for module in test_*.py; do set -- "$@" "${module%.py}"; done
+fi
 export PYTHONDONTWRITEBYTECODE=1
-LOSSY=$top/target/hosts/lossy KEEPER=$top/target/hosts/keeper python3 -m unittest "$@"
+LOSSY=$top/target/hosts/lossy KEEPER=$top/target/hosts/keeper python3 run.py "$@"
 if [ -x "$top/target/hosts/checked" ]; then
     echo "once more, under sanitizers" >&2
-    CHECKED=yes KEEPER=$top/target/hosts/checked python3 -m unittest "$@"
+    CHECKED=yes KEEPER=$top/target/hosts/checked python3 run.py "$@"
 else
     echo "not tried under sanitizers: the compiler has none here" >&2
 fi

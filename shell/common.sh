@@ -42,8 +42,8 @@ need_command() {
 # static_library CRATE: proves the crate where that is not done, and writes its archive. Wants shell/built.sh and its lock.
 static_library() {
     archive=$top/target/staticlib/lib$1.a
-    ! is_built "target/staticlib/lib$1.a" crates crates.txt || return 0
-    library_sum=$(sum_of crates crates.txt)
+    ! is_built "target/staticlib/lib$1.a" crates crates.txt -name must-fail -prune -o || return 0
+    library_sum=$(sum_of crates crates.txt -name must-fail -prune -o)
     say "proving and building the library $1, which takes some minutes the first time"
     (cd "$top" && rt staticlib "$1") >"$work/rt.log" 2>&1 </dev/null || { cat "$work/rt.log" >&2; die "$1 was not built"; }
     was_built "target/staticlib/lib$1.a" "$library_sum"

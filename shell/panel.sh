@@ -1,6 +1,6 @@
 # The panel's command, in the repository and where it is installed: the verdict number on standard input, written or not done.
-# Wants with_program of shell/program.sh, or what takes its place.
-# shellcheck shell=sh
+# Wants with_program of shell/runs.sh, and version.
+# shellcheck shell=sh disable=SC2154
 
 panel_usage() {
     cat <<'END'

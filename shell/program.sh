@@ -9,13 +9,13 @@ die() { say "$*"; exit 2; }
 # build NAME: proves and builds a program where that is not done; ends the script with status 2 where that fails
 build() {
     program=$top/target/bin/$1
-    ! is_built "target/bin/$1" crates crates.txt || return 0
+    ! is_built "target/bin/$1" crates crates.txt -name must-fail -prune -o || return 0
     . "$top/shell/common.sh"
     find_kit
     one_at_a_time
-    ! is_built "target/bin/$1" crates crates.txt || return 0
+    ! is_built "target/bin/$1" crates crates.txt -name must-fail -prune -o || return 0
     make_work
-    sum=$(sum_of crates crates.txt)
+    sum=$(sum_of crates crates.txt -name must-fail -prune -o)
     say "proving and building $1, which takes some minutes the first time"
     (cd "$top" && rt check "$1") >"$work/rt.log" 2>&1 </dev/null || { cat "$work/rt.log" >&2; die "$1 was not built"; }
     copy_runner
