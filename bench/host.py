@@ -40,13 +40,13 @@ def streamed(count, *options):
     return took, used.ru_maxrss
 
 
-def one_by_each(times, *programs):
-    """The seconds of one append by each program, the best of so many, in turns."""
+def one_by_each(times, programs, *words):
+    """The seconds of one run by each program, the best of so many, in turns."""
     best = [1e9] * len(programs)
     for _ in range(times):
         for place, program in enumerate(programs):
             begun = time.monotonic()
-            subprocess.run([program, "append", WORK / "one"], input=b"call", stdout=subprocess.DEVNULL, check=True)
+            subprocess.run([program, *words], input=b"call", stdout=subprocess.DEVNULL, check=True)
             best[place] = min(best[place], time.monotonic() - begun)
     return best
 
@@ -62,7 +62,9 @@ _, few = streamed(RECORDS // 10)
 took, memory = min(streamed(RECORDS) for _ in range(2))
 root = subprocess.run(BEFORE + [KEEPER, "root", str(WORK / "log")], capture_output=True, check=True).stdout.decode().split()
 with_records, _ = streamed(RECORDS, "--keep-records")
-alone, script = one_by_each(60, TOP / "target" / "hosts" / "keeper", TOP / "bin" / "keeper")
+programs = (TOP / "target" / "hosts" / "keeper", TOP / "bin" / "keeper")
+alone, script = one_by_each(60, programs, "append", WORK / "one")
+nothing, nothing_by_script = one_by_each(60, programs, "--version")
 print(f"{RECORDS} records of {LENGTH} bytes on {platform.machine()}" + ("" if NATIVE else ", under the emulator"))
 print(f"the library in a loop, nodes in memory    {loop:8.2f} s")
 print(f"the host by --stream, all on disk         {took:8.2f} s   {took / loop:.2f} times the loop")
@@ -70,9 +72,10 @@ print(f"the same with --keep-records              {with_records:8.2f} s   {with_
 print(f"the most memory                           {memory:8d} kB  at a tenth of the records {few} kB")
 print(f"one append by the host, the best of 60    {alone * 1000:8.1f} ms")
 print(f"one append by bin/keeper, the best of 60  {script * 1000:8.1f} ms")
+print(f"--version by the host and by bin/keeper   {nothing * 1000:8.1f} ms  {nothing_by_script * 1000:.1f} ms")
 if root != said:
     sys.exit("host.sh: the roots differ")
 held("the host by --stream to the library's loop", took / loop, 1.5)
 held("memory at all records to that at a tenth", memory / few, 1.2)
-held("what bin/keeper adds to an append", (script - alone) * 1000, 10, " ms")
+held("what bin/keeper adds of its own, measured where no disk is", (nothing_by_script - nothing) * 1000, 10, " ms")
 sys.exit(1 if MISSED else 0)

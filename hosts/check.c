@@ -172,5 +172,7 @@ int check(const Asked *asked) {
     checks.top_length = bytes_in(asked->words[1], checks.top);
     if (asked->count > 2 && (asked->record || asked->page)) wrong_use("--record and --page go with one letter on standard input");
     if (asked->json && asked->record && strcmp(asked->record, "-") == 0) wrong_use("the record and an object cannot both go to standard output");
+    if (asked->record) demand_no_log(asked->record);
+    if (asked->page) demand_no_log(asked->page);
     return asked->count == 2 ? check_one(&checks) : check_many(&checks);
 }

@@ -41,6 +41,15 @@ void read_input(Input *input, const char *path, size_t most) {
     fail("cannot read standard input: %s", errno == EBADF ? "it is closed" : strerror(errno));
 }
 
+/* A log, its records and its index begin with one name. */
+void demand_no_log(const char *path) {
+    static const char name[] = "cinchcleat ";
+    Input start;
+    struct stat about;
+    if (stat(path, &about) != 0 || !S_ISREG(about.st_mode) || try_input(&start, path, sizeof name - 1) != 0) return;
+    if (start.length == sizeof name - 1 && memcmp(start.bytes, name, start.length) == 0) fail("%s is a log, or belongs to one, and is not written over", path);
+}
+
 /* ---- a folder */
 
 static int visible(const struct dirent *entry) { return entry->d_name[0] != '.'; }

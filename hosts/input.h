@@ -24,6 +24,9 @@ typedef struct {
 Files folder_files(const char *folder);
 void free_files(Files *files);
 
+/* Fails, with words, where a path leads to a log or to what is kept beside one: no output is written over it. */
+void demand_no_log(const char *path);
+
 /* A folder's file of that name. */
 char *path_in(const char *folder, const char *name);
 

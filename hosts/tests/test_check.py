@@ -57,6 +57,15 @@ class Check(HostTest):
             ran = keeper(*self.noted, "--record", "/dev/full", given=letter_of(self.records, 1))
             self.assertEqual((ran.returncode, ran.stdout), (2, b""), full)
 
+    def test_no_log_is_written_over(self):
+        """A log named for the record or the page by mistake, or what is kept beside it, stays."""
+        self.done("append", self.log, "--keep-records", given=b"call")
+        for path in (self.log, self.folder / "log.records", self.folder / "log.index"):
+            before = self.unchanged(path)
+            for option in ("--record", "--page"):
+                self.failed("is not written over", *self.noted, option, path, given=letter_of(self.records, 1))
+            self.assertEqual(self.unchanged(path), before)
+
     def test_control_characters_are_not_shown_as_text(self):
         record = b"no goal\x1b[2K\rgoal"
         said = self.done("check", 1, said_of([record])[1].hex(), "--show", given=letter_of([record], 0))

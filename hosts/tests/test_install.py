@@ -8,6 +8,7 @@ from harness import CHECKED, RECORDS, TOP, HostTest, letter_of, said_of
 
 
 @unittest.skipIf(CHECKED, "tried once, without sanitizers")
+@unittest.skipUnless(shutil.which("make"), "no make here")
 class Installed(HostTest):
     def setUp(self):
         super().setUp()
