@@ -24,13 +24,12 @@ sanitizers='-fsanitize=address,undefined -fno-sanitize-recover=all'
 find_compiler() {
     linking=
     [ "$machine" = x86_64 ] || linking=-static
-    cc=${CC:-${prefix}gcc}
+    cc=${CC:-$compiler}
     if [ -n "${CC-}" ]; then
-        command -v "${CC%% *}" >/dev/null 2>&1 || die "CC is ${CC%% *}, and there is no such command"
         # shellcheck disable=SC2086
         case $($CC -dumpmachine 2>/dev/null) in
         x86_64-*) ;;
-        *) say "$CC makes no code for x86-64, which the library is: ${prefix}gcc is taken"; cc=${prefix}gcc ;;
+        *) say "$CC makes no code for x86-64, which the library is: $compiler is taken"; cc=$compiler ;;
         esac
     fi
     # shellcheck disable=SC2086
@@ -96,6 +95,7 @@ programs_built() {
     is_built target/hosts/lossy $test_sources
 }
 
+demand_cc
 set -f
 ! programs_built "${1-}" || exit 0
 find_compiler

@@ -33,7 +33,7 @@
 #include "store.h"
 
 /* An append reads the peaks alone, whose root is known. Of the other inner nodes it looks at those that came with so many of the last leaves. */
-enum { LOOKED_AT = 8192 };
+enum { LOOKED_AT = 16384 };
 
 uint8_t *store_nodes(const Store *store) { return store->file.bytes + SIZES; }
 size_t store_room(const Store *store) { return store->file.length - SIZES; }

@@ -10,10 +10,12 @@ machine=$(uname -m)
 # Object code is x86-64 on every machine: elsewhere than on x86-64 the compiler and binutils are the cross ones.
 if [ "$machine" = x86_64 ]; then
     prefix=
+    compiler=cc
     compiler_packages='gcc libc6-dev'
     binutils_package=binutils
 else
     prefix=x86_64-linux-gnu-
+    compiler=${prefix}gcc
     compiler_packages='gcc-x86-64-linux-gnu libc6-dev-amd64-cross'
     binutils_package=binutils-x86-64-linux-gnu
 fi
@@ -37,6 +39,11 @@ need_command() {
     command=$1
     shift
     command -v "$command" >/dev/null 2>&1 || die "no $command: apt-get install $*"
+}
+
+# demand_cc: a compiler that is named in CC is there, or it was mistyped
+demand_cc() {
+    [ -z "${CC-}" ] || command -v "${CC%% *}" >/dev/null 2>&1 || die "CC is ${CC%% *}, and there is no such command"
 }
 
 # static_library CRATE: proves the crate where that is not done, and writes its archive. Wants shell/built.sh and its lock.

@@ -26,10 +26,8 @@ install_missing() {
 
 # install_compiler: what hosts/build.sh compiles with. A compiler that was named in CC is the caller's.
 install_compiler() {
-    if [ -n "${CC-}" ]; then
-        command -v "${CC%% *}" >/dev/null 2>&1 || die "CC is ${CC%% *}, and there is no such command"
-    fi
+    demand_cc
     if [ "$machine" = x86_64 ] && [ -n "${CC-}" ]; then return; fi
     # shellcheck disable=SC2086
-    install_missing "${prefix}gcc" $compiler_packages
+    install_missing "$compiler" $compiler_packages
 }
