@@ -24,7 +24,8 @@ static const char style[] =
     "svg .step{font-size:10px;font-weight:700;fill:#fff}.own{fill:#ddf4ff;stroke:#0a4fb0}.other{fill:#f6f8fa;stroke:#818b98}"
     ".given{fill:#fff1c2;stroke:#9a6700;stroke-width:2}.worked{fill:#0a4fb0;stroke:#0a4fb0}.way{stroke:#0a4fb0;stroke-width:3}"
     ".edge{stroke:#818b98;stroke-width:1.5}.fold{stroke:#818b98;stroke-width:1.5;stroke-dasharray:5 4}"
-    "@media print{body{padding:0;max-width:none}section,tr{break-inside:avoid}h2{break-after:avoid}@page{margin:18mm}}";
+    "@media print{body{padding:0;max-width:none;font-size:10pt}h1{font-size:22pt}h2{margin:1.1rem 0 .3rem;break-after:avoid}code,pre{font-size:7.6pt}"
+    "tr,svg,pre,header{break-inside:avoid}td,th{padding:.05rem .5rem .05rem 0}svg{max-height:80mm}@page{margin:16mm}}";
 
 /* ---- parts */
 
