@@ -52,6 +52,7 @@ int fresh_file(const char *path, const uint8_t *bytes, size_t count) {
         return file;
     int error = errno;
     unlink(draft);
+    fresh_remove(path, file);
     close(file);
     errno = error;
     return -1;

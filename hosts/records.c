@@ -89,15 +89,28 @@ static void map_to_write(Records *records) {
     if (map_whole(&records->bytes, HEAD) != 0 || map_whole(&records->ends, HEAD) != 0) fail("cannot map %s: %s", records->bytes_path, strerror(errno));
 }
 
-/* LOG.index is made first and LOG.records is opened first: so a reader beside the program that makes them finds none, or both. Whether both are there;
-   an index with nothing in it, alone, is what a crash has left of making them. */
+/* Whether an index with ends in it stands there, without the records: one with nothing in it is what a crash has left of making the two, and a file of
+   another kind is somebody else's. */
+static int index_alone(const Records *records) {
+    char start[NAMED];
+    int file = open(records->ends_path, O_RDONLY | O_NOFOLLOW | O_NONBLOCK | O_CLOEXEC);
+    if (file < 0) return 0;
+    int used = pread(file, start, NAMED, 0) == NAMED && memcmp(start, ends_name, NAMED) == 0 && lseek(file, 0, SEEK_END) > HEAD;
+    close(file);
+    return used;
+}
+
+/* LOG.index is made first and LOG.records is opened first: so a reader beside the program that makes them finds none, or both. 1 where both are there, 0
+   where none is, -1 where the first is missing. */
 static int open_both(Records *records, int asked) {
-    int ends = records->writing && open_file(records, &records->ends, records->ends_path, ends_name, asked);
-    if (ends && !records->made[1]) records->first = first_in(&records->ends, ends_name);
-    int bytes = open_file(records, &records->bytes, records->bytes_path, bytes_name, asked);
-    if (!ends) ends = open_file(records, &records->ends, records->ends_path, ends_name, 0);
-    if (bytes && !ends) fail("%s is missing: take its copy", records->ends_path);
-    return bytes ? 1 : ends && records->ends.length > HEAD ? -1 : 0;
+    if (asked) {
+        open_file(records, &records->ends, records->ends_path, ends_name, 1);
+        if (!records->made[1]) records->first = first_in(&records->ends, ends_name);
+        return open_file(records, &records->bytes, records->bytes_path, bytes_name, 1);
+    }
+    if (!open_file(records, &records->bytes, records->bytes_path, bytes_name, 0)) return index_alone(records) ? -1 : 0;
+    if (!open_file(records, &records->ends, records->ends_path, ends_name, 0)) fail("%s is missing: take its copy", records->ends_path);
+    return 1;
 }
 
 void records_open(Records *records, const char *log, uint64_t leaves, int writing, int asked) {
@@ -106,10 +119,7 @@ void records_open(Records *records, const char *log, uint64_t leaves, int writin
     records->ends_path = path_beside(log, ".index");
     records->bytes.file = records->ends.file = -1;
     int there = open_both(records, asked);
-    if (there < 0) {
-        map_close(&records->ends);
-        there = open_both(records, asked);
-    }
+    if (there < 0) there = open_both(records, asked);
     if (there < 0) fail("%s is missing: take its copy", records->bytes_path);
     records->open = there;
     if (there) take_count(records, leaves);

@@ -29,6 +29,24 @@ class Records(HostTest):
         self.assertFalse(self.object(0, "info", self.log)["keeps_records"])
         self.failed("keeps no records", "verify", self.log, "--records")
 
+    def test_somebody_elses_index(self):
+        """A file that only has the name of an index is no hindrance to a log that keeps no records, and stays."""
+        self.ends.write_bytes(b"see page 7\n")
+        self.make(RECORDS[:3])
+        self.holds(RECORDS[:3])
+        self.assertEqual(self.done("letter", self.log, 1, given=RECORDS[1]), letter_of(RECORDS[:3], 1))
+        self.failed("log.index", "append", self.log, "--keep-records", given=b"record")
+        self.assertEqual(self.ends.read_bytes(), b"see page 7\n")
+        self.assertFalse(self.bytes.exists())
+
+    def test_records_are_gone(self):
+        self.done("append", self.log, "--keep-records", given=RECORDS[3])
+        self.bytes.unlink()
+        before = self.unchanged()
+        self.failed("log.records is missing", "append", self.log, given=b"record")
+        self.failed("log.records is missing", "letter", self.log, 0)
+        self.assertEqual(self.unchanged(), before)
+
     def test_begun_later(self):
         self.make(RECORDS[:3])
         self.done("append", self.log, "--keep-records", given=RECORDS[3])
