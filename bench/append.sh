@@ -3,10 +3,17 @@
 # The log has 2^10, 2^16 or 2^20 leaves and a few more, so that the append has no merge, one or five. Counted as by bench/digest.sh.
 # Exit status: 0 where every limit is met, 1 where one is missed or two nodes differ, 2 where nothing could be measured.
 set -eu
+here=$(readlink -f -- "$0")
+top=${here%/*/*}
 # shellcheck source=shell/common.sh
-. "$(dirname "$0")/../shell/common.sh"
+. "$top/shell/common.sh"
+# shellcheck source=shell/built.sh
+. "$top/shell/built.sh"
+find_kit
+one_at_a_time
+make_work
 # shellcheck source=bench/count.sh
-. "$(dirname "$0")/count.sh"
+. "$top/bench/count.sh"
 find_sources
 find_compilers
 counted_by_both "$work/append" "$here/append.c"

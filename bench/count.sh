@@ -9,8 +9,7 @@ sources_found() {
 }
 
 find_sources() {
-    sources_found || install_packages librust-blake3-dev
-    sources_found || die "no BLAKE3 C code in librust-blake3-dev"
+    sources_found || die "no C code of BLAKE3: apt-get install librust-blake3-dev"
     version=$(basename "$(dirname "$blake3")")
 }
 
@@ -22,8 +21,8 @@ find_compilers() {
     need_command "${prefix}objcopy" "$binutils_package"
     gcc=${prefix}gcc
     # shellcheck disable=SC2086
-    [ -f "$($gcc -print-file-name=libc.a)" ] || install_packages $compiler_packages
-    clang=$tools/clang
+    [ -f "$($gcc -print-file-name=libc.a)" ] || die "no C library to link with: apt-get install $compiler_packages"
+    clang=$tools/bin/clang
     [ -x "$clang" ] || die "the kit has no clang for $machine"
     mkdir "$work/include"
     : >"$work/include/immintrin.h"
@@ -35,7 +34,7 @@ theirs() {
     name=$1
     shift
     objects=
-    for source in "$blake3/blake3.c" "$blake3/blake3_dispatch.c" "$blake3/blake3_portable.c" "$here/theirs.c"; do
+    for source in "$blake3/blake3.c" "$blake3/blake3_dispatch.c" "$blake3/blake3_portable.c" ${more_sources-} "$here/theirs.c"; do
         object=$work/$name-$(basename "$source" .c).o
         # shellcheck disable=SC2086
         "$@" $flags -DNAME="${name}_digest" -I"$work/include" -I"$blake3" -c "$source" -o "$object"
@@ -61,11 +60,11 @@ count_by_valgrind() {
 
 # count_by_emulator PROGRAM: the same by the kit's emulator; what lies between the first instruction of mark_begin and that of mark_end
 count_by_emulator() {
-    [ -x "$tools/qemu-x86_64" ] || die "the kit has no emulator for $machine"
+    [ -x "$tools/bin/qemu-x86_64" ] || die "the kit has no emulator for $machine"
     : >"$work/times"
     {
         status=0
-        "$tools/qemu-x86_64" -one-insn-per-tb -d nochain,exec "$1" count 2>&1 >"$work/names" || status=$?
+        "$tools/bin/qemu-x86_64" -one-insn-per-tb -d nochain,exec "$1" count 2>&1 >"$work/names" || status=$?
         echo "$status" >"$work/status"
     } | LC_ALL=C awk '
         $1 != "Trace" { print >"/dev/stderr"; next }

@@ -2,13 +2,20 @@
 # bench/digest.sh: executed instructions of the digest beside BLAKE3's portable C, and the limits that they are held to.
 # The C is compiled by gcc and by the kit's own clang; a ratio is to the better of the two. The three run in one program
 # on the same bytes, and their digests are compared. On x86-64 valgrind counts, and the times are printed too; elsewhere
-# the kit's emulator runs one instruction at a time, and its trace is counted. What is missing is installed.
+# the kit's emulator runs one instruction at a time, and its trace is counted. What is missing is named.
 # Exit status: 0 where every limit is met, 1 where one is missed or two digests differ, 2 where nothing could be measured.
 set -eu
+here=$(readlink -f -- "$0")
+top=${here%/*/*}
 # shellcheck source=shell/common.sh
-. "$(dirname "$0")/../shell/common.sh"
+. "$top/shell/common.sh"
+# shellcheck source=shell/built.sh
+. "$top/shell/built.sh"
+find_kit
+one_at_a_time
+make_work
 # shellcheck source=bench/count.sh
-. "$(dirname "$0")/count.sh"
+. "$top/bench/count.sh"
 find_sources
 find_compilers
 static_library digest_c

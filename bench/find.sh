@@ -4,10 +4,17 @@
 # nodes that the letter speaks of are made. Counted as by bench/digest.sh.
 # Exit status: 0 where the limit is met, 1 where it is missed or an answer is not what it should be, 2 where nothing could be measured.
 set -eu
+here=$(readlink -f -- "$0")
+top=${here%/*/*}
 # shellcheck source=shell/common.sh
-. "$(dirname "$0")/../shell/common.sh"
+. "$top/shell/common.sh"
+# shellcheck source=shell/built.sh
+. "$top/shell/built.sh"
+find_kit
+one_at_a_time
+make_work
 # shellcheck source=bench/count.sh
-. "$(dirname "$0")/count.sh"
+. "$top/bench/count.sh"
 find_sources
 find_compilers
 static_library keeper

@@ -7,8 +7,15 @@
 # caller. A caller that also turns words one by one is then refused, and the two have to be kept apart again.
 # Exit status: 0 where the vector code is there, 1 where it is not, 2 where nothing could be read.
 set -eu
+here=$(readlink -f -- "$0")
+top=${here%/*/*}
 # shellcheck source=shell/common.sh
-. "$(dirname "$0")/../shell/common.sh"
+. "$top/shell/common.sh"
+# shellcheck source=shell/built.sh
+. "$top/shell/built.sh"
+find_kit
+one_at_a_time
+make_work
 need_command "${prefix}objdump" "$binutils_package"
 if [ $# -gt 0 ]; then archive=$1; else static_library digest_c; fi
 "${prefix}objdump" -d --no-show-raw-insn "$archive" >"$work/code" || die "cannot read $archive"

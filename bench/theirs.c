@@ -1,5 +1,5 @@
-/* One digest by BLAKE3's C. bench/digest.sh compiles this file and BLAKE3's own once for each compiler; NAME is
-   gcc_digest or clang_digest. */
+/* One digest by BLAKE3's C. The scripts compile this file and BLAKE3's own once for each compiler, and once with SSE2; NAME is
+   gcc_digest, clang_digest or sse2_digest. */
 #include "blake3.h"
 
 void NAME(const uint8_t *bytes, size_t length, uint8_t out[32]);

@@ -2,24 +2,36 @@
 # hosts/build.sh [test]: proves and builds the library, and builds the programs of this folder into target/hosts, where a source is newer.
 #   keeper   the host             bridge   the calls over a pipe, for outside/outside.py
 # and for hosts/test.sh
-#   lossy    the host on a disk that loses what was not synced       checked   the host under the compiler's sanitizers, where it has them
+#   lossy    the host on a disk that loses what was not synced       checked   the host under the compiler's sanitizers: with the library on
+#            x86-64, elsewhere with what stands in for it in tests (hosts/tests/stand_in.c), since sanitizers are the machine's own
 # They are x86-64 code. There any C compiler does, CC or cc; elsewhere it is Debian's cross compiler, and what stands in target/hosts starts the
-# program under the kit's emulator.
-# Exit status: 0 where all is built, 2 where it could not be.
+# program under the kit's emulator. Exit status: 0 where all is built, 2 where it could not be.
 set -eu
-# shellcheck source=shell/common.sh
-. "$(dirname "$0")/../shell/common.sh"
+here=$(readlink -f -- "$0")
+top=${here%/*/*}
 here=$top/hosts
+# shellcheck source=shell/common.sh
+. "$top/shell/common.sh"
+# shellcheck source=shell/built.sh
+. "$top/shell/built.sh"
+# shellcheck source=hosts/sources.sh
+. "$top/hosts/sources.sh"
 out=$top/target/hosts
-flags='-std=c11 -D_DEFAULT_SOURCE -O2 -g -Wall -Wextra -Werror'
+flags="-std=c11 -D_DEFAULT_SOURCE -O2 -g -Wall -Wextra -Werror -DVERSION=$(cat "$top/VERSION")"
+sanitizers='-fsanitize=address,undefined -fno-sanitize-recover=all'
 
-# newer PROGRAM: whether it is there, and no source has changed since
-newer() {
-    [ -x "$out/$1" ] && [ -z "$(find "$here" "$top/outside/bridge.c" "$top/crates" "$top/crates.txt" "$top/include" -type f -newer "$out/$1" | head -n 1)" ]
-}
-
+# find_compiler: CC, where it is named, must be there, and must make x86-64 code to be used
 find_compiler() {
-    if [ "$machine" = x86_64 ]; then cc=${CC:-cc} linking=; else cc=${prefix}gcc linking=-static; fi
+    linking=
+    [ "$machine" = x86_64 ] || linking=-static
+    cc=${CC:-$compiler}
+    if [ -n "${CC-}" ]; then
+        # shellcheck disable=SC2086
+        case $($CC -dumpmachine 2>/dev/null) in
+        x86_64-*) ;;
+        *) say "$CC makes no code for x86-64, which the library is: $compiler is taken"; cc=$compiler ;;
+        esac
+    fi
     # shellcheck disable=SC2086
     need_command "${cc%% *}" $compiler_packages
 }
@@ -30,41 +42,84 @@ compile() {
     shift
     [ "$machine" = x86_64 ] || program=$program.x86_64
     # shellcheck disable=SC2086
-    (cd "$here" && $cc $flags $linking -I"$top/include" "$@" "$archive" -o "$program") || die "$program was not built"
+    (cd "$here" && $cc $flags $linking -I"$top/include" "$@" "$archive" -o "$program.new") || die "$program was not built"
+    mv "$program.new" "$program"
     [ "$machine" = x86_64 ] || start_by_emulator
 }
 
+# The script finds the emulator beside it, in target/run, wherever the repository is moved to.
 start_by_emulator() {
-    [ -x "$tools/qemu-x86_64" ] || die "the kit has no emulator for $machine"
-    printf '#!/bin/sh\nexec "%s" "%s" "$@"\n' "$tools/qemu-x86_64" "$program" >"${program%.x86_64}"
-    chmod +x "${program%.x86_64}"
+    [ -x "$top/target/run/qemu-x86_64" ] || die "the kit has no emulator for $machine"
+    {
+        printf '#!/bin/sh\n# starts the program beside it, which is x86-64 code, under the emulator in ../run\n'
+        # shellcheck disable=SC2016
+        printf 'here=$(readlink -f -- "$0")\n'
+        grep -v '^#' "$top/shell/streams.sh"
+        # shellcheck disable=SC2016
+        printf 'exec "${here%%/*/*}/run/qemu-x86_64" "$here.x86_64" "$@"\n'
+    } >"${program%.x86_64}.new"
+    chmod +x "${program%.x86_64}.new"
+    mv "${program%.x86_64}.new" "${program%.x86_64}"
 }
 
-# The sanitizers are the native compiler's: where it has none, nothing is built.
+# The sanitizers are the machine's own compiler's: where it has none, nothing is built.
 compile_checked() {
     rm -f "$out/checked"
-    [ "$machine" = x86_64 ] || return 0
-    sanitizers='-fsanitize=address,undefined -fno-sanitize-recover=all'
+    own=${CC:-cc}
+    [ "$machine" = x86_64 ] || own=cc
     echo 'int main(void) { return 0; }' >"$work/empty.c"
     # shellcheck disable=SC2086
-    $cc $sanitizers "$work/empty.c" -o "$work/empty" 2>/dev/null && "$work/empty" || return 0
+    $own $sanitizers "$work/empty.c" -o "$work/empty" 2>/dev/null && "$work/empty" || return 0
+    with=$archive
+    [ "$machine" = x86_64 ] || with=tests/stand_in.c
     # shellcheck disable=SC2086
-    compile checked $sanitizers $host
+    (cd "$here" && $own $flags $sanitizers -I"$top/include" $host_files $with -o "$out/checked") || die "checked was not built"
 }
 
-host='keeper.c store.c input.c say.c'
-last=bridge
-[ "${1-}" != test ] || last=lossy
-! newer "$last" || exit 0
+# The compiler's own look at every way through the host, where the machine's compiler can take it.
+analyze() {
+    echo 'int main(void) { return 0; }' >"$work/empty.c"
+    gcc -fanalyzer "$work/empty.c" -o "$work/empty" 2>/dev/null || return 0
+    for file in $host_files; do
+        # shellcheck disable=SC2086
+        (cd "$here" && gcc $flags -fanalyzer -I"$top/include" -c "$file" -o "$work/analyzed.o") || die "$file is not clean"
+    done
+}
+
+# programs_built LAST: whether all up to that one are built
+programs_built() {
+    # shellcheck disable=SC2086
+    is_built target/hosts/keeper $host_sources || return 1
+    [ "$1" = test ] || return 0
+    # shellcheck disable=SC2086
+    is_built target/hosts/lossy $test_sources
+}
+
+demand_cc
+set -f
+! programs_built "${1-}" || exit 0
 find_compiler
-say "proving and building the library, which takes some minutes the first time"
-static_library keeper
-mkdir -p "$out"
+find_kit
+one_at_a_time
+! programs_built "${1-}" || exit 0
+make_work
 # shellcheck disable=SC2086
-compile keeper $host
+sum=$(sum_of $host_sources)
+# shellcheck disable=SC2086
+test_sum=$(sum_of $test_sources)
+static_library keeper
+set +f
+copy_runner
+mkdir -p "$out"
+say "compiling the host"
+# shellcheck disable=SC2086
+compile keeper $host_files
 compile bridge "$top/outside/bridge.c"
-if [ "$last" = lossy ]; then
+was_built target/hosts/keeper "$sum"
+if [ "${1-}" = test ]; then
+    analyze
     compile_checked
     # shellcheck disable=SC2086
-    compile lossy -Wl,--wrap=mmap,--wrap=msync,--wrap=pwrite,--wrap=fdatasync $host lossy.c
+    compile lossy -Wl,--wrap=mmap,--wrap=msync,--wrap=pwrite,--wrap=fdatasync,--wrap=fsync $host_files tests/lossy.c
+    was_built target/hosts/lossy "$test_sum"
 fi

@@ -1,8 +1,7 @@
-/* Records and letters as they come in: a whole file, the files of a folder, a stream. */
+/* Records and letters as they come in: a whole file, the files of a folder. */
 #include <dirent.h>
 #include <errno.h>
 #include <fcntl.h>
-#include <poll.h>
 #include <stdio.h>
 #include <stdlib.h>
 #include <string.h>
@@ -10,25 +9,45 @@
 #include <unistd.h>
 #include "input.h"
 #include "say.h"
+#include "start.h"
 
 /* ---- whole files */
 
-/* What one read gives; once more where a signal came between. */
-static size_t read_some(int file, uint8_t *bytes, size_t most, const char *path) {
-    ssize_t got = read(file, bytes, most);
-    while (got < 0 && errno == EINTR) got = read(file, bytes, most);
-    if (got < 0) fail("cannot read %s: %s", path, strerror(errno));
-    return (size_t)got;
+static int read_whole(Input *input, int file, size_t most) {
+    input->length = 0;
+    while (input->length < most) {
+        if (wait_for_input(file, -1) == STOP) fail("%s came before all was read: nothing was done", stop_asked());
+        ssize_t got = read(file, input->bytes + input->length, most - input->length);
+        if (got < 0 && (errno == EINTR || errno == EAGAIN)) continue;
+        if (got < 0) return -1;
+        if (got == 0) return 0;
+        input->length += (size_t)got;
+    }
+    return 0;
+}
+
+int try_input(Input *input, const char *path, size_t most) {
+    int file = path ? open(path, O_RDONLY | O_CLOEXEC) : STDIN_FILENO;
+    if (file < 0) return -1;
+    int status = read_whole(input, file, most), error = errno;
+    if (path) close(file);
+    errno = error;
+    return status;
 }
 
 void read_input(Input *input, const char *path, size_t most) {
-    int file = path ? open(path, O_RDONLY) : STDIN_FILENO;
-    const char *name = path ? path : "standard input";
-    if (file < 0) fail("cannot open %s: %s", name, strerror(errno));
-    input->length = 0;
-    for (size_t got = 1; got > 0 && input->length < most; input->length += got)
-        got = read_some(file, input->bytes + input->length, most - input->length, name);
-    if (path) close(file);
+    if (try_input(input, path, most) == 0) return;
+    if (path) fail("cannot read %s: %s", path, strerror(errno));
+    fail("cannot read standard input: %s", errno == EBADF ? "it is closed" : strerror(errno));
+}
+
+/* A log, its records and its index begin with one name. */
+void demand_no_log(const char *path) {
+    static const char name[] = "cinchcleat ";
+    Input start;
+    struct stat about;
+    if (stat(path, &about) != 0 || !S_ISREG(about.st_mode) || try_input(&start, path, sizeof name - 1) != 0) return;
+    if (start.length == sizeof name - 1 && memcmp(start.bytes, name, start.length) == 0) fail("%s is a log, or belongs to one, and is not written over", path);
 }
 
 /* ---- a folder */
@@ -37,7 +56,7 @@ static int visible(const struct dirent *entry) { return entry->d_name[0] != '.';
 
 static int by_name(const struct dirent **a, const struct dirent **b) { return strcmp((*a)->d_name, (*b)->d_name); }
 
-static char *path_in(const char *folder, const char *name) {
+char *path_in(const char *folder, const char *name) {
     size_t room = strlen(folder) + strlen(name) + 2;
     char *path = malloc(room);
     if (!path) fail("no memory for the names in %s", folder);
@@ -74,37 +93,4 @@ Files folder_files(const char *folder) {
 void free_files(Files *files) {
     for (size_t i = 0; i < files->count; i++) free(files->paths[i]);
     free(files->paths);
-}
-
-/* ---- a stream */
-
-static void refill(Stream *stream) {
-    struct pollfd input = {.fd = STDIN_FILENO, .events = POLLIN};
-    if (poll(&input, 1, 0) == 0) stream->before_wait(stream->waiter);
-    stream->from = 0;
-    stream->to = read_some(STDIN_FILENO, stream->bytes, sizeof stream->bytes, "standard input");
-}
-
-/* The next bytes, fewer where the stream ends. */
-static size_t take(Stream *stream, uint8_t *bytes, size_t count) {
-    size_t taken = 0;
-    while (taken < count) {
-        if (stream->from == stream->to) refill(stream);
-        size_t part = stream->to - stream->from;
-        if (part == 0) break;
-        if (part > count - taken) part = count - taken;
-        memcpy(bytes + taken, stream->bytes + stream->from, part);
-        stream->from += part;
-        taken += part;
-    }
-    return taken;
-}
-
-Next next_record(Stream *stream, Input *record) {
-    uint8_t head[4];
-    size_t got = take(stream, head, sizeof head);
-    if (got < sizeof head) return got == 0 ? ENDED : BROKEN;
-    size_t stated = (size_t)head[0] << 24 | (size_t)head[1] << 16 | (size_t)head[2] << 8 | head[3];
-    record->length = stated > LONGEST_RECORD ? LONGEST_RECORD + 1 : stated;
-    return take(stream, record->bytes, record->length) < record->length ? BROKEN : A_RECORD;
 }

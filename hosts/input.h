@@ -1,4 +1,4 @@
-/* Records and letters as they come in: a whole file, the files of a folder, a stream. */
+/* Records and letters as they come in: a whole file, the files of a folder. */
 #ifndef INPUT_H
 #define INPUT_H
 #include <stddef.h>
@@ -12,8 +12,9 @@ typedef struct {
     size_t length;
 } Input;
 
-/* A file, or standard input where the path is NULL, up to so many bytes. */
+/* A file, or standard input where the path is NULL, up to so many bytes. The first fails, with words; the second returns 0, or -1 with errno. */
 void read_input(Input *input, const char *path, size_t most);
+int try_input(Input *input, const char *path, size_t most);
 
 /* The paths of a folder's files in the order of their names, as the bytes of the names order them. */
 typedef struct {
@@ -23,16 +24,10 @@ typedef struct {
 Files folder_files(const char *folder);
 void free_files(Files *files);
 
-/* Records on standard input, each 4 bytes of length, big-endian, and then its bytes. */
-typedef struct {
-    uint8_t bytes[1 << 16];
-    size_t from, to;
-    void (*before_wait)(void *); /* called where the next bytes are not there yet */
-    void *waiter;
-} Stream;
+/* Fails, with words, where a path leads to a log or to what is kept beside one: no output is written over it. */
+void demand_no_log(const char *path);
 
-/* The next record, cut behind its first LONGEST_RECORD + 1 bytes, or how the stream has ended: behind a record, or within one. */
-typedef enum { A_RECORD, ENDED, BROKEN } Next;
-Next next_record(Stream *stream, Input *record);
+/* A folder's file of that name. */
+char *path_in(const char *folder, const char *name);
 
 #endif

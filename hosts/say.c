@@ -1,102 +1,64 @@
-/* What the host says to a person: 01's numbers in words, refusals, failures, progress. */
+/* What the host says to a person: notes and failures on standard error, and the exit status. */
 #include <stdarg.h>
 #include <stdio.h>
 #include <stdlib.h>
-#include <time.h>
-#include <unistd.h>
-#include "keeper.h"
+#include "answer.h"
+#include "numbers.h"
+#include "progress.h"
 #include "say.h"
 
-/* ---- the numbers */
+enum { LONGEST = 8192 };
 
-/* What a number means, and what a person at the keyboard does about it. */
-typedef struct {
-    const char *meaning, *advice;
-} Words;
-
-static const Words words[] = {
-    [KEEPER_DONE] = {"done", "Nothing."},
-    [KEEPER_NO_SUCH_SIZE] = {"no log has this size",
-                             "Compare the size with the one that was noted; a log file with such a size is damaged: take its copy."},
-    [KEEPER_TOO_MANY_LEAVES] = {"the log is full, at 4,294,967,296 records", "Begin another log."},
-    [KEEPER_RECORD_TOO_LONG] = {"the record is longer than 16,384 bytes", "Cut the record into parts, or log its digest in its place."},
-    [KEEPER_NODES_TOO_SHORT] = {"the log file holds fewer nodes than its size says", "The file was cut: take its copy."},
-    [KEEPER_NO_SUCH_LEAF] = {"the log has no record with this index", "Indexes begin with 0 and end one below the number of records."},
-    [KEEPER_OUTPUT_TOO_SHORT] = {"the room for the answer is too short", "This is a fault of the host: report it."},
-    [KEEPER_NOT_A_LETTER] = {"the letter does not have the length that it must have",
-                              "Do not accept it: it was cut, or something was added. Ask for the whole letter."},
-    [KEEPER_OTHER_SIZE] = {"the letter is for a log of another size",
-                           "Do not accept it: ask for a letter for the size that was noted."},
-    [KEEPER_OTHER_ROOT] = {"the root worked out from the letter is another one",
-                           "Do not accept it: this record was not logged at this index, or size and root are another log's."},
-    [KEEPER_EMPTY_LOG] = {"the log is empty and has no root", "Append a record first."},
-    [KEEPER_NOT_A_NODE] = {"the stored node has an unknown flag or a wrong length", "The stored node is damaged: take its copy."},
-    [KEEPER_NOT_A_DIGEST] = {"the trusted root is not of 32 bytes", "Give the root as 64 hexadecimal digits."},
-    [KEEPER_OTHER_RECORD] = {"the record is not the one that was logged at this index",
-                             "Give the record as it was appended, byte for byte, and its own index."},
-    [KEEPER_DAMAGED_NODES] = {"a node above the record is not the digest of the two nodes below it",
-                            "The log file is damaged: take its copy."},
-    [KEEPER_TOO_MANY_ITEMS] = {"the letter would need more than 32 items", "No log within the limits needs so many: report it."},
-};
-
-static const Words unknown = {"a number that this host does not know", "Host and library are of different versions: build both."};
-
-int refused(const char *what, uint32_t number) {
-    const Words *of = number < sizeof words / sizeof *words && words[number].meaning ? &words[number] : &unknown;
-    note("%s refused, number %u: %s.\n  %s", what, (unsigned)number, of->meaning, of->advice);
-    return REFUSED;
-}
-
-/* ---- notes and failures */
-
-/* whether the terminal stands at the beginning of a line of progress */
-static int line_is_open;
-
-void progress_end(void) {
-    if (line_is_open) fputc('\n', stderr);
-    line_is_open = 0;
-}
-
-static void write_note(const char *format, va_list values) {
+static void write_note(const char *words) {
     progress_end();
-    fputs("keeper: ", stderr);
-    vfprintf(stderr, format, values);
-    fputc('\n', stderr);
+    fprintf(stderr, "keeper: %s\n", words);
 }
 
 void note(const char *format, ...) {
+    char words[LONGEST];
     va_list values;
     va_start(values, format);
-    write_note(format, values);
+    vsnprintf(words, sizeof words, format, values);
     va_end(values);
+    write_note(words);
+}
+
+static void write_error(const char *format, va_list values) {
+    char words[LONGEST];
+    vsnprintf(words, sizeof words, format, values);
+    write_note(words);
+    put_text("error", words);
+}
+
+int failed(const char *format, ...) {
+    va_list values;
+    va_start(values, format);
+    write_error(format, values);
+    va_end(values);
+    return FAILED;
 }
 
 void fail(const char *format, ...) {
     va_list values;
+    put_close_all();
     va_start(values, format);
-    write_note(format, values);
+    write_error(format, values);
     va_end(values);
-    exit(FAILED);
+    exit(answer_end(FAILED));
 }
 
-/* ---- progress */
-
-static double now(void) {
-    struct timespec t;
-    clock_gettime(CLOCK_MONOTONIC, &t);
-    return (double)t.tv_sec + (double)t.tv_nsec / 1e9;
+void fail_with(int status, const char *format, ...) {
+    va_list values;
+    put_close_all();
+    va_start(values, format);
+    write_error(format, values);
+    va_end(values);
+    exit(answer_end(status));
 }
 
-void progress_begin(Progress *progress) {
-    progress->begun = progress->told = now();
-    progress->terminal = isatty(STDERR_FILENO);
-}
-
-void progress_tell(Progress *progress, uint64_t records, uint64_t bytes) {
-    double at = now();
-    if (at - progress->told < (progress->terminal ? 1 : 10)) return;
-    progress->told = at;
-    fprintf(stderr, "keeper: %llu records, %.1f MB, %.0f records a second%s", (unsigned long long)records, (double)bytes / 1e6,
-            (double)records / (at - progress->begun), progress->terminal ? "   \r" : "\n");
-    line_is_open = progress->terminal;
+int refused(const char *what, uint32_t number) {
+    const Words *words = words_of(number);
+    note("%s refused, number %u: %s.\n  %s", what, (unsigned)number, words->meaning, words->advice);
+    put_refusal(number);
+    return REFUSED;
 }

@@ -1,28 +1,22 @@
-/* What the host says to a person: 01's numbers in words, refusals, failures, progress. */
+/* What the host says to a person: notes and failures on standard error, and the exit status. */
 #ifndef SAY_H
 #define SAY_H
 #include <stdint.h>
 
-/* The exit status: done; refused by the library, whose number is printed; wrong use, or the system failed. */
-enum { DONE = 0, REFUSED = 1, FAILED = 2 };
+/* The exit status: done; refused by the library, whose number is printed; everything else that is no success; a log that another program writes. */
+enum { DONE = 0, REFUSED = 1, FAILED = 2, BUSY = 3 };
 
 /* A line on standard error. */
 void note(const char *format, ...) __attribute__((format(printf, 1, 2)));
 
-/* The same, and the program ends with FAILED. */
+/* The same, which is also the answer's error, and the program ends with FAILED, or with the status that is given. */
 _Noreturn void fail(const char *format, ...) __attribute__((format(printf, 1, 2)));
+_Noreturn void fail_with(int status, const char *format, ...) __attribute__((format(printf, 2, 3)));
 
-/* The number that a call answered, what it means and what to do about it; returns REFUSED. */
+/* The same without the end: returns FAILED. */
+int failed(const char *format, ...) __attribute__((format(printf, 1, 2)));
+
+/* The number that a call answered, what it means and what to do about it, also into the answer; returns REFUSED. */
 int refused(const char *what, uint32_t number);
-
-/* How far a long work is, on standard error: every second on a terminal, in one line, and every ten seconds elsewhere. */
-typedef struct {
-    double begun, told;
-    int terminal;
-} Progress;
-
-void progress_begin(Progress *progress);
-void progress_tell(Progress *progress, uint64_t records, uint64_t bytes);
-void progress_end(void);
 
 #endif

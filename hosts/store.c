@@ -1,191 +1,282 @@
 /* A log's node file: the nodes in a memory map, the size beside them, safe against a crash.
 
-   The file has two slots, each on a page of its own, and then the nodes, the one at position p from byte NODES + 32p on. A slot has a name
-   (16 bytes), a size (8, big-endian), the root at that size (32; zeros for an empty log) and the digest of those 56 bytes. What is appended
-   becomes part of the log in five steps:
+   The file has two pages with a size and its root, each written twice (sizes.h), and then the nodes, the one at position p from byte 8192 + 32p on.
+   What is appended becomes part of the log in five steps:
 
      step                                                   what a crash during it leaves
-     1 the file grows, where there is no room               bytes behind the size, which mean nothing
+     1 the files grow, where there is no room               bytes behind the size, which mean nothing
      2 keeper_append writes nodes behind the size           the same
-     3 msync: the nodes go to disk                          the same
-     4 the slot not in use gets the new size                that slot damaged, the other whole, with the old size; or the new size, with its nodes
-     5 fdatasync: the slot goes to disk                     the same as 4
+     3 msync: records, where they are kept, and nodes       the same
+     4 the page not in use gets the new size, twice         copies of the new size, with its nodes, of the size before the last, or one torn; the
+                                                            other page whole, with the old size
+     5 fdatasync: the page goes to disk                     the same as 4
 
-   So at every moment there is a whole slot whose nodes are on disk. Opening takes the whole slot with the greater size. That its nodes are not
-   there is left by no crash, but by a cut file, or by a disk that lost what it had reported as written: then it takes the other slot, and says so.
+   So at every moment there is a whole page whose nodes are on disk, and no crash leaves a page without a whole copy or a size without its nodes.
+   Where a log is found so, it was cut or changed, or its disk lost what it had reported as written: it is read in the older state, which is said, and
+   not appended to, since the next append would be written over records that were acknowledged.
    Nodes below a size never change, and so a reader needs no lock; a writer keeps other writers out by one. */
 #include <errno.h>
 #include <fcntl.h>
-#include <libgen.h>
+#include <inttypes.h>
 #include <stdio.h>
+#include <stdlib.h>
 #include <string.h>
 #include <sys/file.h>
-#include <sys/mman.h>
 #include <sys/stat.h>
+#include <time.h>
 #include <unistd.h>
+#include "fresh.h"
 #include "keeper.h"
+#include "progress.h"
 #include "say.h"
+#include "start.h"
 #include "store.h"
 
-enum { NODE = 32, SLOT_ROOM = 4096, NODES = 2 * SLOT_ROOM, NAMED = 16, SEALED = 56, SLOT = SEALED + NODE };
-static const char name[NAMED + 1] = "cinchcleat log 1";
+/* An append reads the peaks alone, whose root is known. Of the other inner nodes it looks at those that came with so many of the last leaves. */
+enum { LOOKED_AT = 16384 };
 
-/* ---- slots */
+uint8_t *store_nodes(const Store *store) { return store->file.bytes + SIZES; }
+size_t store_room(const Store *store) { return store->file.length - SIZES; }
 
-/* The root of the nodes at a size; zeros for none. */
-static uint32_t root_at(const Store *store, uint64_t size, uint8_t root[NODE]) {
-    memset(root, 0, NODE);
-    return size == 0 ? KEEPER_DONE : keeper_root(size, store_nodes(store), store_room(store), root, NODE);
-}
-
-static uint64_t slot_size(const uint8_t *slot) {
-    uint64_t size = 0;
-    for (int i = 0; i < 8; i++) size = size << 8 | slot[NAMED + i];
-    return size;
-}
-
-static void fill_slot(const Store *store, uint8_t slot[SLOT]) {
-    memcpy(slot, name, NAMED);
-    for (int i = 0; i < 8; i++) slot[NAMED + i] = (uint8_t)(store->size >> (56 - 8 * i));
-    uint32_t number = root_at(store, store->size, slot + NAMED + 8);
-    if (number != KEEPER_DONE) fail("%s has no root at its own size, number %u: take its copy", store->path, (unsigned)number);
-    keeper_digest(slot, SEALED, slot + SEALED, NODE);
-}
-
-/* A slot as it stands in the file, copied first since a writer may be at it; whether its seal is whole. */
-static int read_slot(const Store *store, int which, uint8_t slot[SLOT]) {
-    uint8_t seal[NODE];
-    memcpy(slot, store->bytes + which * SLOT_ROOM, SLOT);
-    keeper_digest(slot, SEALED, seal, NODE);
-    return memcmp(slot, name, NAMED) == 0 && memcmp(slot + SEALED, seal, NODE) == 0;
-}
-
-/* Whether the nodes that a slot speaks of are there: room for all, and their root. */
-static int nodes_there(const Store *store, const uint8_t *slot) {
-    uint8_t root[NODE];
-    return store_room(store) / NODE >= slot_size(slot) && root_at(store, slot_size(slot), root) == KEEPER_DONE &&
-           memcmp(root, slot + NAMED + 8, NODE) == 0;
-}
-
-static unsigned long long records_at(const uint8_t *slot) {
+static uint64_t leaves_at(uint64_t size) {
     uint64_t leaves = 0;
-    keeper_leaf_count(slot_size(slot), &leaves);
+    keeper_leaf_count(size, &leaves);
     return leaves;
 }
 
-static void take_slot(Store *store, int which, const uint8_t *slot) {
-    store->slot = which;
-    store->kept = store->size = slot_size(slot);
+uint64_t store_leaves(const Store *store) { return leaves_at(store->size); }
+
+static void nap(long milliseconds) {
+    struct timespec time = {milliseconds / 1000, milliseconds % 1000 * 1000000L};
+    nanosleep(&time, NULL);
 }
 
-/* The whole slot with the greater size; the other where the nodes of that one are not there. */
-static void choose_slot(Store *store) {
-    uint8_t slots[2][SLOT];
-    int whole[2] = {read_slot(store, 0, slots[0]), read_slot(store, 1, slots[1])};
-    if (!whole[0] && !whole[1]) fail("%s is not a log, or its first bytes are damaged: take its copy", store->path);
-    int best = !whole[0] || (whole[1] && slot_size(slots[1]) > slot_size(slots[0]));
-    if (nodes_there(store, slots[best])) {
-        take_slot(store, best, slots[best]);
-        if (!whole[1 - best])
-            note("%s: the last append was interrupted, or the file was changed; it opens with %llu records", store->path, records_at(slots[best]));
-        return;
+/* ---- what is there */
+
+int nodes_there(const Store *store, const State *state) {
+    uint8_t root[NODE] = {0};
+    if (store_room(store) / NODE < state->size) return 0;
+    if (state->size > 0 && keeper_root(state->size, store_nodes(store), store_room(store), root, NODE) != KEEPER_DONE) return 0;
+    return memcmp(root, state->root, NODE) == 0;
+}
+
+void what_is_wrong(const Store *store, const State *state, char *words, size_t room) {
+    Wrong wrong;
+    uint64_t leaves = leaves_at(state->size), held = store_room(store) / NODE;
+    if (held < state->size)
+        snprintf(words, room, "the file was cut: it has room for %" PRIu64 " nodes of %" PRIu64, held, state->size);
+    else if (wrong_among(store_nodes(store), 0, leaves, &wrong))
+        snprintf(words, room, "the node at position %" PRIu64 ", byte %" PRIu64 " of the file, is not the digest of the nodes at %" PRIu64 " and %" PRIu64,
+                 wrong.position, SIZES + NODE * wrong.position, wrong.left, wrong.right);
+    else if (!nodes_there(store, state))
+        snprintf(words, room, "the nodes have another root than the one that was kept with size %" PRIu64 "%s", state->size,
+                 leaves & 1 ? "; every inner node is right, and so the last leaf was changed, or size and root were" : "");
+    else
+        snprintf(words, room, "a page of sizes, in the first %d bytes of the file, has no whole copy: it may have held a newer size", SIZES);
+}
+
+/* Takes the newest state whose nodes are there. */
+static void take_state(Store *store, const Sizes *sizes) {
+    int best = sizes->whole[0] == 0 || (sizes->whole[1] > 0 && sizes->states[1].size > sizes->states[0].size);
+    store->newest = sizes->states[best];
+    store->page = best;
+    store->found = sizes->whole[0] == 0 || sizes->whole[1] == 0 ? PAGE_LOST : sizes->damaged > 0 ? COPY_DAMAGED : SOUND;
+    if (!nodes_there(store, &store->newest)) {
+        store->page = 1 - best;
+        store->found = sizes->whole[1 - best] > 0 && nodes_there(store, &sizes->states[1 - best]) ? OLDER_STATE : NO_STATE;
     }
-    if (!whole[1 - best] || !nodes_there(store, slots[1 - best]))
-        fail("%s was cut, or its nodes were changed: it had %llu records; take its copy", store->path, records_at(slots[best]));
-    take_slot(store, 1 - best, slots[1 - best]);
-    note("%s was cut, or its nodes were changed: it had %llu records and opens with the first %llu; append the others again", store->path,
-         records_at(slots[best]), records_at(slots[1 - best]));
+    if (store->found == NO_STATE) store->page = best;
+    store->state = sizes->states[store->page];
+    store->size = store->state.size;
 }
 
-static void write_slot(Store *store) {
-    uint8_t slot[SLOT];
-    fill_slot(store, slot);
-    if (pwrite(store->file, slot, SLOT, (1 - store->slot) * SLOT_ROOM) != SLOT || fdatasync(store->file) != 0)
-        fail("cannot write the size of %s: %s", store->path, strerror(errno));
-    take_slot(store, 1 - store->slot, slot);
+/* Reads the file's state: the sizes are copied first, since a writer may be at them. */
+static void look(Store *store, uint8_t pages[SIZES]) {
+    Sizes sizes;
+    if (map_whole(&store->file, SIZES) != 0) {
+        if (errno == EINVAL) fail("%s is not a log: a log is a file of %d bytes or more", store->file.path, SIZES);
+        fail("cannot map %s: %s", store->file.path, strerror(errno));
+    }
+    memcpy(pages, store->file.bytes, SIZES);
+    read_sizes(pages, &sizes);
+    if (sizes.whole[0] + sizes.whole[1] > 0) take_state(store, &sizes);
+    else store->found = NO_STATE, store->state = store->newest = (State){0};
 }
 
-/* ---- the file */
+/* What looks damaged may be a writer's work in the middle: it is mapped and read again, and believed when it has stayed the same for a while. */
+static void look_well(Store *store) {
+    const int sure = 8, most = 400;
+    uint8_t before[SIZES], pages[SIZES];
+    size_t length = 0;
+    look(store, pages);
+    for (int same = 0, looks = 0; store->found != SOUND && same < sure && looks < most; looks++) {
+        memcpy(before, pages, SIZES);
+        length = store->file.length;
+        nap(5);
+        look(store, pages);
+        same = length == store->file.length && memcmp(before, pages, SIZES) == 0 ? same + 1 : 0;
+    }
+    Sizes sizes;
+    read_sizes(pages, &sizes);
+    if (sizes.whole[0] + sizes.whole[1] == 0) fail("%s is not a log, or its first bytes are damaged: take its copy", store->file.path);
+}
 
-static void map_file(Store *store) {
+/* ---- how it is opened */
+
+static void say_what_was_found(const Store *store) {
+    char words[512];
+    const char *path = store->file.path;
+    unsigned long long had = leaves_at(store->newest.size), has = leaves_at(store->state.size);
+    if (store->found == COPY_DAMAGED)
+        note("%s: a copy of its size is damaged, by a crash in an append or later; another is whole, and all %llu records are there", path, has);
+    if (store->found == SOUND || store->found == COPY_DAMAGED) return;
+    what_is_wrong(store, &store->newest, words, sizeof words);
+    if (store->found == NO_STATE)
+        fail("%s was cut, or its nodes were changed: %s. It had %llu records; keeper verify looks further, or take its copy", path, words, had);
+    if (store->found == OLDER_STATE)
+        note("%s was cut, or its nodes were changed: %s. It had %llu records and is read as it was with the first %llu", path, words, had, has);
+    else note("%s is damaged: %s. It is read with %llu records", path, words, has);
+}
+
+/* A log that is not whole is not appended to. */
+static void demand_whole(const Store *store) {
+    char words[512];
+    Wrong wrong;
+    uint64_t leaves = leaves_at(store->newest.size), first = leaves > LOOKED_AT ? leaves - LOOKED_AT : 0;
+    int whole = store->found == SOUND || store->found == COPY_DAMAGED;
+    if (whole && !wrong_among(store_nodes(store), first, leaves, &wrong)) return;
+    what_is_wrong(store, &store->newest, words, sizeof words);
+    fail("%s was cut or changed: %s. It has %" PRIu64 " records, and nothing was appended, so that none is written over.\n"
+         "  keeper verify %s looks further; keeper repair %s COPY keeps a copy and mends what can be mended.",
+         store->file.path, words, leaves, store->file.path, store->file.path);
+}
+
+/* The one that this program has made and kept nothing in, for the end of the program. */
+static Store *unfinished;
+
+static void take_back(void) {
+    if (unfinished) store_close(unfinished);
+}
+
+static int make(Store *store) {
+    uint8_t pages[SIZES];
+    State empty = {0};
+    fill_page(&empty, pages);
+    fill_page(&empty, pages + SIZE_PAGE);
+    int file = fresh_file(store->file.path, pages, SIZES);
+    if (file < 0) return -1;
+    store->made = 1;
+    if (!unfinished) atexit(take_back);
+    unfinished = store;
+    return file;
+}
+
+static void lock(Store *store, double wait) {
+    double until = seconds() + wait;
+    while (flock(store->file.file, LOCK_EX | LOCK_NB) != 0) {
+        if (errno != EWOULDBLOCK && errno != EINTR) fail("cannot lock %s: %s", store->file.path, strerror(errno));
+        if (stop_asked()) fail("%s came while another program appends to %s: nothing was done", stop_asked(), store->file.path);
+        if (seconds() >= until)
+            fail_with(BUSY, "another program appends to %s: try again when it is done, or let --wait SECONDS wait for it", store->file.path);
+        nap(10);
+    }
+}
+
+/* A name that leads to nothing is a link, and no log is made behind it. */
+static void demand_no_link(const char *path) {
     struct stat about;
-    if (fstat(store->file, &about) != 0) fail("cannot read %s: %s", store->path, strerror(errno));
-    if (!S_ISREG(about.st_mode) || about.st_size < NODES) fail("%s is not a log: a log is a file of %d bytes or more", store->path, NODES);
-    store->length = (size_t)about.st_size;
-    store->bytes = mmap(NULL, store->length, store->writing ? PROT_READ | PROT_WRITE : PROT_READ, MAP_SHARED, store->file, 0);
-    if (store->bytes == MAP_FAILED) fail("cannot map %s: %s", store->path, strerror(errno));
+    if (lstat(path, &about) == 0 && S_ISLNK(about.st_mode) && stat(path, &about) != 0)
+        fail("%s is a link that leads nowhere: a new log is made in the place of nothing", path);
 }
 
-/* More room, in steps that grow with the file. The disk space is taken now: a full disk is an error here, and no signal in the map later. */
-static void grow(Store *store) {
-    const size_t least = (size_t)1 << 16, most = (size_t)1 << 26;
-    size_t step = store->length < least ? least : store->length > most ? most : store->length;
-    int error = posix_fallocate(store->file, (off_t)store->length, (off_t)step);
-    if (error == 0 && fsync(store->file) != 0) error = errno;
-    if (error != 0) fail("cannot make %s longer: %s", store->path, strerror(error));
-    munmap(store->bytes, store->length);
-    map_file(store);
-}
-
-/* An empty log under another name, on disk before it gets its own: a crash leaves no log or a whole one. */
-static void write_empty(const char *path, const char *draft) {
-    Store store = {.path = path};
-    uint8_t head[NODES] = {0};
-    fill_slot(&store, head);
-    memcpy(head + SLOT_ROOM, head, SLOT);
-    int file = open(draft, O_WRONLY | O_CREAT | O_TRUNC, 0666);
-    if (file < 0 || write(file, head, NODES) != NODES || fsync(file) != 0 || close(file) != 0 || rename(draft, path) != 0) {
-        int error = errno;
-        unlink(draft);
-        fail("cannot make %s: %s", path, strerror(error));
+/* Opens the file, and to write locks it; where its name has gone to another file before the lock was there, once more. */
+static void open_file(Store *store, Purpose purpose, double wait) {
+    const char *path = store->file.path;
+    int writing = purpose == TO_APPEND || purpose == TO_REPAIR;
+    struct stat about;
+    for (;;) {
+        int file = open(path, (writing ? O_RDWR : O_RDONLY) | O_NONBLOCK | O_CLOEXEC);
+        if (file < 0 && errno == ENOENT && purpose == TO_APPEND) {
+            demand_no_link(path);
+            file = make(store);
+            if (file < 0 && errno == EEXIST) continue;
+            if (file < 0) fail("cannot make %s: %s", path, strerror(errno));
+        }
+        if (file < 0) fail("cannot open %s: %s", path, strerror(errno));
+        if (fstat(file, &about) != 0 || !S_ISREG(about.st_mode)) fail("%s is not a log: a log is a file", path);
+        store->file.file = file;
+        if (writing) lock(store, wait);
+        if (!writing || still_named(path, file)) return;
+        close(file);
     }
 }
 
-/* Makes a log where there is none. The folder's lock lets one process do it. */
-static void make_missing(const char *path) {
-    char draft[4096], folder_name[4096];
-    if (access(path, F_OK) == 0) return;
-    if (snprintf(draft, sizeof draft, "%s.new", path) >= (int)sizeof draft) fail("the name %s is too long", path);
-    strcpy(folder_name, path);
-    int folder = open(dirname(folder_name), O_RDONLY | O_DIRECTORY);
-    if (folder < 0 || flock(folder, LOCK_EX) != 0) fail("cannot make %s: %s", path, strerror(errno));
-    if (access(path, F_OK) != 0) write_empty(path, draft);
-    if (fsync(folder) != 0 || close(folder) != 0) fail("cannot make %s: %s", path, strerror(errno));
+/* A log that was found whole, and not before. */
+static void map_to_write(Store *store) {
+    store->file.writing = 1;
+    if (map_whole(&store->file, SIZES) != 0) fail("cannot map %s: %s", store->file.path, strerror(errno));
 }
 
-/* ---- the store */
-
-void store_open(Store *store, const char *path, int writing) {
-    *store = (Store){.path = path, .writing = writing};
-    if (writing) make_missing(path);
-    store->file = open(path, writing ? O_RDWR : O_RDONLY);
-    if (store->file < 0) fail("cannot open %s: %s", path, strerror(errno));
-    if (writing && flock(store->file, LOCK_EX | LOCK_NB) != 0)
-        fail(errno == EWOULDBLOCK ? "another program appends to %s: try again when it is done" : "cannot lock %s", path);
-    map_file(store);
-    choose_slot(store);
+void store_open(Store *store, const char *path, Purpose purpose, double wait) {
+    *store = (Store){.file = {.path = path, .file = -1}};
+    store->records.bytes.file = store->records.ends.file = -1;
+    open_file(store, purpose, wait);
+    look_well(store);
+    if (purpose == TO_APPEND) demand_whole(store);
+    if (purpose == TO_APPEND || purpose == TO_READ) say_what_was_found(store);
+    if (purpose == TO_APPEND) map_to_write(store);
 }
 
-uint8_t *store_nodes(const Store *store) { return store->bytes + NODES; }
-size_t store_room(const Store *store) { return store->length - NODES; }
-
-uint32_t store_append(Store *store, const uint8_t *record, size_t length, uint64_t *hashes) {
-    uint32_t number;
-    while ((number = keeper_append(store->size, record, length, store_nodes(store), store_room(store), &store->size, hashes)) ==
-           KEEPER_NODES_TOO_SHORT)
-        grow(store);
-    return number;
-}
-
-void store_keep(Store *store) {
-    if (store->size == store->kept) return;
-    size_t page = (size_t)sysconf(_SC_PAGESIZE);
-    size_t from = (NODES + NODE * store->kept) / page * page, to = NODES + NODE * store->size;
-    if (msync(store->bytes + from, to - from, MS_SYNC) != 0) fail("cannot write the nodes of %s: %s", store->path, strerror(errno));
-    write_slot(store);
+void store_stays(Store *store) {
+    store->made = store->records.made[0] = store->records.made[1] = 0;
+    if (unfinished == store) unfinished = NULL;
 }
 
 void store_close(Store *store) {
-    munmap(store->bytes, store->length);
-    close(store->file);
+    if (store->made) fresh_remove(store->file.path, store->file.file);
+    if (unfinished == store) unfinished = NULL;
+    records_close(&store->records);
+    map_close(&store->file);
+}
+
+/* ---- appends */
+
+uint32_t store_append(Store *store, const uint8_t *record, size_t length) {
+    uint64_t hashes;
+    uint32_t number;
+    if (length <= LONGEST_RECORD && records_room(&store->records, length) != 0) return STORE_FULL;
+    while ((number = keeper_append(store->size, record, length, store_nodes(store), store_room(store), &store->size, &hashes)) ==
+           KEEPER_NODES_TOO_SHORT)
+        if (map_longer(&store->file, store->file.length + 1) != 0) return STORE_FULL;
+    if (number == KEEPER_DONE) records_add(&store->records, record, length);
+    return number;
+}
+
+static int write_page(Store *store, const State *state, int which) {
+    uint8_t page[SIZE_PAGE];
+    fill_page(state, page);
+    ssize_t written = pwrite(store->file.file, page, SIZE_PAGE, which * SIZE_PAGE);
+    if (written >= 0 && written != SIZE_PAGE) errno = ENOSPC;
+    return written == SIZE_PAGE && fdatasync(store->file.file) == 0 ? 0 : -1;
+}
+
+int store_keep(Store *store) {
+    State next = {.size = store->size};
+    if (next.size == store->state.size) return 0;
+    if (keeper_root(next.size, store_nodes(store), store_room(store), next.root, NODE) != KEEPER_DONE) {
+        errno = EIO;
+        return -1;
+    }
+    if (records_keep(&store->records) != 0) return -1;
+    if (map_sync(&store->file, SIZES + NODE * store->state.size, SIZES + NODE * next.size) != 0) return -1;
+    if (write_page(store, &next, 1 - store->page) != 0) return -1;
+    store->page = 1 - store->page;
+    store->state = store->newest = next;
+    store_stays(store);
+    return 0;
+}
+
+int store_set(Store *store, const State *state) {
+    if (write_page(store, state, 1 - store->page) != 0) return -1;
+    return write_page(store, state, store->page);
 }

@@ -3,29 +3,51 @@
 #define STORE_H
 #include <stddef.h>
 #include <stdint.h>
+#include "mapped.h"
+#include "records.h"
+#include "sizes.h"
+
+/* How a log is found: whole; whole with a damaged copy of a size; with a page of sizes lost; with the newest state's nodes damaged or cut off, and the
+   older state whole; with no state whole. */
+typedef enum { SOUND, COPY_DAMAGED, PAGE_LOST, OLDER_STATE, NO_STATE } Found;
 
 typedef struct {
-    const char *path;
-    int file, writing;
-    uint8_t *bytes;      /* the whole file, mapped */
-    size_t length;       /* of the file */
-    int slot;            /* which slot holds the size that is kept */
-    uint64_t kept, size; /* nodes on disk, and with those appended since */
+    Mapped file;
+    Records records;
+    Found found;
+    State newest;        /* as the sizes have it */
+    State state;         /* as it is used: the newest that is whole, and what was kept since */
+    int page;            /* which page of sizes holds it */
+    uint64_t size;       /* with what was appended and is not kept yet */
+    int made;            /* by this program, with nothing kept yet */
 } Store;
 
-/* To read: the log as it was last kept. To write: the same, made where there is none, and no other writer until store_close. */
-void store_open(Store *store, const char *path, int writing);
+/* To read: the log as it was last kept, or its older state, which is said. To append: the newest state or none, made where there is no log, and no
+   other writer until store_close; a log that is not whole is not opened. To look: as it is, whatever it is, without other writers where wanted. */
+typedef enum { TO_READ, TO_APPEND, TO_LOOK, TO_REPAIR } Purpose;
+void store_open(Store *store, const char *path, Purpose purpose, double wait);
 
-/* The nodes, and how many bytes are lent with them. */
+/* The nodes, and how many bytes of them there are. */
 uint8_t *store_nodes(const Store *store);
 size_t store_room(const Store *store);
+uint64_t store_leaves(const Store *store);
 
-/* One more record, not kept yet: 01's number, and the hash count where it is done. */
-uint32_t store_append(Store *store, const uint8_t *record, size_t length, uint64_t *hashes);
+/* Whether the nodes of a state are there: room for all, and its root. What is wrong with them, in words. */
+int nodes_there(const Store *store, const State *state);
+void what_is_wrong(const Store *store, const State *state, char *words, size_t room);
 
-/* What was appended is on disk when this returns. */
-void store_keep(Store *store);
+/* One more record, not kept yet: the library's number, and where there is no room for it STORE_FULL, with errno. */
+enum { STORE_FULL = 1 << 16 };
+uint32_t store_append(Store *store, const uint8_t *record, size_t length);
 
+/* What was appended is on disk when this returns: 0, or -1 with errno, and then the log is as it was last kept. */
+int store_keep(Store *store);
+
+/* A state into one page of sizes and then the other, for a repair: 0, or -1 with errno. */
+int store_set(Store *store, const State *state);
+
+/* A log that was made for this and has nothing kept stays from now on. */
+void store_stays(Store *store);
 void store_close(Store *store);
 
 #endif

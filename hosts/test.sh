@@ -1,15 +1,20 @@
 #!/bin/sh
-# hosts/test.sh: builds the host and tries it: round trips and refusals against the second program, crashes, damaged files, wrong use. Where the
-# compiler has sanitizers, once more with them. Exit status: 0 where all holds, 1 where something does not, 2 where the host could not be built.
+# hosts/test.sh [MODULE..]: builds the host and tries it, by the modules of hosts/tests: against the second program, after crashes, on damaged files, in
+# wrong use, as scripts, where it is installed. Then once more under the sanitizers of the machine's compiler, where it has them.
+# Exit status: 0 where all holds, 1 where something does not, 2 where the host could not be built.
 set -eu
-top=$(cd "$(dirname "$0")/.." && pwd -P)
+here=$(readlink -f -- "$0")
+top=${here%/*/*}
 "$top/hosts/build.sh" test
-export KEEPER="$top/target/hosts/keeper" LOSSY="$top/target/hosts/lossy"
-python3 "$top/hosts/test.py"
-KEEPER=$top/target/hosts/checked
-if [ -x "$KEEPER" ]; then
-    echo "once more, with sanitizers" >&2
-    python3 "$top/hosts/test.py"
+cd "$top/hosts/tests"
+if [ $# = 0 ]; then
+    for module in test_*.py; do set -- "$@" "${module%.py}"; done
+fi
+export PYTHONDONTWRITEBYTECODE=1
+LOSSY=$top/target/hosts/lossy KEEPER=$top/target/hosts/keeper python3 run.py "$@"
+if [ -x "$top/target/hosts/checked" ]; then
+    echo "once more, under sanitizers" >&2
+    CHECKED=yes KEEPER=$top/target/hosts/checked python3 run.py "$@"
 else
-    echo "not tried with sanitizers: the compiler has none here" >&2
+    echo "not tried under sanitizers: the compiler has none here" >&2
 fi

@@ -1,52 +1,66 @@
-# What the scripts of bench/ and hosts/ share: the repository, the kit, the tools for x86-64 and the packages that bring them.
-# shellcheck shell=sh disable=SC2034
+# What the scripts share: the repository, the kit, the tools for x86-64, and the packages that bring them.
+# A script sets top, the repository, before it takes this in.
+# shellcheck shell=sh disable=SC2034,SC2154
 
-say() { echo "$(basename "$0"): $*" >&2; }
+say() { echo "${0##*/}: $*" >&2; }
 die() { say "$*"; exit 2; }
 
-top=$(cd "$(dirname "$0")/.." && pwd -P)
-guide=$(rt doc) || die "no rt: Rattle's kit is not installed"
-kit=$(dirname "$(dirname "$guide")")
 machine=$(uname -m)
-tools=$kit/on/$machine/toolchain/bin
-work=$(mktemp -d) || die "no temporary folder"
-trap 'rm -rf "$work"' EXIT
 
 # Object code is x86-64 on every machine: elsewhere than on x86-64 the compiler and binutils are the cross ones.
 if [ "$machine" = x86_64 ]; then
     prefix=
+    compiler=cc
     compiler_packages='gcc libc6-dev'
     binutils_package=binutils
 else
     prefix=x86_64-linux-gnu-
+    compiler=${prefix}gcc
     compiler_packages='gcc-x86-64-linux-gnu libc6-dev-amd64-cross'
     binutils_package=binutils-x86-64-linux-gnu
 fi
 
-# install_packages PACKAGE..: by Debian's names
-install_packages() {
-    say "installing $*"
-    as_root=
-    [ "$(id -u)" = 0 ] || as_root=sudo
-    for try in 1 2; do
-        # shellcheck disable=SC2086
-        $as_root apt-get install -y --no-install-recommends "$@" >"$work/apt.log" 2>&1 && return
-        [ "$try" = 2 ] || $as_root apt-get update >>"$work/apt.log" 2>&1 || true
-    done
-    cat "$work/apt.log" >&2
-    die "could not install $*"
+# make_work: a folder for what a script needs while it runs
+make_work() {
+    work=$(mktemp -d) || die "no temporary folder"
+    trap 'rm -rf "$work"' EXIT
 }
 
-# need_command COMMAND PACKAGE..: the packages are installed where the command is missing
+# find_kit: the kit, and its tools for this machine
+find_kit() {
+    command -v rt >/dev/null 2>&1 || die "no rt: Rattle's kit is not installed, and something has to be proved and built"
+    guide=$(rt doc) || die "rt does not name its guide"
+    kit=$(dirname "$(dirname "$guide")")
+    tools=$kit/on/$machine/toolchain
+}
+
+# need_command COMMAND PACKAGE..: names the packages where the command is missing. Nothing is installed: only bin/match and .ci/run do that.
 need_command() {
     command=$1
     shift
-    command -v "$command" >/dev/null 2>&1 || install_packages "$@"
-    command -v "$command" >/dev/null 2>&1 || die "no $command, with $* installed"
+    command -v "$command" >/dev/null 2>&1 || die "no $command: apt-get install $*"
 }
 
-# static_library CRATE: proves the crate where that is not done, and writes its archive
+# demand_cc: a compiler that is named in CC is there, or it was mistyped
+demand_cc() {
+    [ -z "${CC-}" ] || command -v "${CC%% *}" >/dev/null 2>&1 || die "CC is ${CC%% *}, and there is no such command"
+}
+
+# static_library CRATE: proves the crate where that is not done, and writes its archive. Wants shell/built.sh and its lock.
 static_library() {
-    (cd "$top" && rt staticlib "$1") >"$work/rt.log" 2>&1 || { cat "$work/rt.log" >&2; die "$1 was not built"; }
     archive=$top/target/staticlib/lib$1.a
+    ! is_built "target/staticlib/lib$1.a" crates crates.txt -name must-fail -prune -o || return 0
+    library_sum=$(sum_of crates crates.txt -name must-fail -prune -o)
+    say "proving and building the library $1, which takes some minutes the first time"
+    (cd "$top" && rt staticlib "$1") >"$work/rt.log" 2>&1 </dev/null || { cat "$work/rt.log" >&2; die "$1 was not built"; }
+    was_built "target/staticlib/lib$1.a" "$library_sum"
+}
+
+# copy_runner: into target/run what starts a program of the crates where there is no kit: its loader and libraries, and the emulator
+copy_runner() {
+    mkdir -p "$top/target/run"
+    for file in "$tools"/lib/ld-linux-x86-64.so.2 "$tools"/lib/lib*.so.* "$tools"/bin/qemu-x86_64; do
+        [ ! -e "$file" ] || cmp -s "$file" "$top/target/run/${file##*/}" || cp "$file" "$top/target/run/.new.$$" || die "cannot copy $file"
+        [ ! -e "$top/target/run/.new.$$" ] || mv "$top/target/run/.new.$$" "$top/target/run/${file##*/}"
+    done
 }

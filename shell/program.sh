@@ -1,19 +1,24 @@
-# What the scripts of bin/ and outside/ share: a program of the crates, proved and built first where that is not done.
-# shellcheck shell=sh
-top=$(cd "$(dirname "$0")/.." && pwd -P)
+# A program of the crates, proved and built where a source is newer, and run. A script sets top, the repository, before it takes this in.
+# shellcheck shell=sh disable=SC2154
+. "$top/shell/built.sh"
+. "$top/shell/runs.sh"
+run=$top/target/run
+say() { echo "${0##*/}: $*" >&2; }
+die() { say "$*"; exit 2; }
 
-# build NAME: proves and builds a program; ends the script with status 2 where that fails
+# build NAME: proves and builds a program where that is not done; ends the script with status 2 where that fails
 build() {
-    log=$(mktemp)
-    trap 'rm -f "$log"' EXIT
-    (cd "$top" && rt check "$1") >"$log" 2>&1 </dev/null || { cat "$log" >&2; exit 2; }
     program=$top/target/bin/$1
-}
-
-# with_program WORD..: the words, then those that start the program. Programs are x86-64 code: on another machine the kit has an emulator beside
-# its compiler.
-with_program() {
-    tools=$(dirname "$(dirname "$(rt doc)")")/on/$(uname -m)/toolchain
-    if [ -x "$tools/bin/qemu-x86_64" ]; then set -- "$@" "$tools/bin/qemu-x86_64"; fi
-    "$@" "$tools/lib/ld-linux-x86-64.so.2" --library-path "$tools/lib" "$program"
+    ! is_built "target/bin/$1" crates crates.txt -name must-fail -prune -o || return 0
+    . "$top/shell/common.sh"
+    find_kit
+    one_at_a_time
+    ! is_built "target/bin/$1" crates crates.txt -name must-fail -prune -o || return 0
+    make_work
+    sum=$(sum_of crates crates.txt -name must-fail -prune -o)
+    say "proving and building $1, which takes some minutes the first time"
+    (cd "$top" && rt check "$1") >"$work/rt.log" 2>&1 </dev/null || { cat "$work/rt.log" >&2; die "$1 was not built"; }
+    copy_runner
+    was_built "target/bin/$1" "$sum"
+    exec 9<&-
 }

@@ -1,0 +1,181 @@
+/* keeper root, info, letter and find: what is asked of a log. */
+#include <inttypes.h>
+#include <stdio.h>
+#include <string.h>
+#include <unistd.h>
+#include "answer.h"
+#include "commands.h"
+#include "input.h"
+#include "keeper.h"
+#include "say.h"
+#include "store.h"
+#include "trusted.h"
+
+enum { PAIR = 64, NUMBER = 8 };
+static Input record, written;
+
+/* ---- root */
+
+/* The size in 8 bytes, big-endian, and the root. */
+static void write_noted(uint64_t size, const uint8_t top[NODE]) {
+    uint8_t bytes[NUMBER];
+    for (int i = 0; i < NUMBER; i++) bytes[i] = (uint8_t)(size >> 8 * (NUMBER - 1 - i));
+    fwrite(bytes, 1, NUMBER, stdout);
+    fwrite(top, 1, NODE, stdout);
+}
+
+int root(const Asked *asked) {
+    Store log;
+    uint8_t top[NODE];
+    char digits[2 * NODE + 1];
+    uint64_t leaves = 0;
+    demand_words(asked, 1, 1);
+    if (asked->bytes && asked->json) wrong_use("--bytes and --json are two forms of one answer");
+    if (asked->bytes && isatty(STDOUT_FILENO)) fail("these are bytes and no text: send them to a file, >NOTED");
+    store_open(&log, asked->words[0], TO_READ, 0);
+    uint64_t size = size_asked(&log, asked);
+    uint32_t number = trusted_root(&log, size, top);
+    if (number != KEEPER_DONE) return refused("root", number);
+    keeper_leaf_count(size, &leaves);
+    hex_of(top, NODE, digits);
+    if (asked->bytes) write_noted(size, top);
+    else line("%" PRIu64 " %s", size, digits);
+    put_number("size", size);
+    put_text("root", digits);
+    put_number("records", leaves);
+    store_close(&log);
+    return DONE;
+}
+
+/* ---- info */
+
+static const char *state_of(const Store *log) {
+    static const char *const words[] = {[SOUND] = "whole", [COPY_DAMAGED] = "whole, a copy of its size is damaged",
+                                        [PAGE_LOST] = "damaged: a page of sizes is lost",
+                                        [OLDER_STATE] = "damaged: read as it was before its newest state"};
+    return log->found < NO_STATE ? words[log->found] : "damaged";
+}
+
+static void tell_records(const Store *log) {
+    uint64_t first = log->records.first;
+    put_flag("keeps_records", log->records.open);
+    if (!log->records.open) {
+        line("records are not kept beside it");
+        return;
+    }
+    put_number("records_kept_from", first);
+    line("records are kept beside it from index %" PRIu64 " on, in %s", first, log->records.bytes_path);
+}
+
+int info(const Asked *asked) {
+    Store log;
+    uint8_t top[NODE];
+    char digits[2 * NODE + 1] = "";
+    demand_words(asked, 1, 1);
+    store_open(&log, asked->words[0], TO_READ, 0);
+    if (keeper_root(log.size, store_nodes(&log), lent(&log), top, NODE) == KEEPER_DONE) hex_of(top, NODE, digits);
+    line("records %" PRIu64 "\nsize    %" PRIu64 "\nroot    %s\nfile    %s, %zu bytes\nstate   %s", store_leaves(&log), log.size,
+         digits[0] ? digits : "none, the log is empty", log.file.path, log.file.length, state_of(&log));
+    put_number("records", store_leaves(&log));
+    put_number("size", log.size);
+    put_text("root", digits);
+    put_text("file", log.file.path);
+    put_number("file_length", log.file.length);
+    put_text("state", state_of(&log));
+    put_flag("whole", log.found == SOUND || log.found == COPY_DAMAGED);
+    records_open(&log.records, log.file.path, store_leaves(&log), 0, 0);
+    tell_records(&log);
+    store_close(&log);
+    return DONE;
+}
+
+/* ---- letter */
+
+/* The record that is given, the one that is kept beside the log, or the one on standard input: whether it was kept. */
+static int take_record(Store *log, const Asked *asked, uint64_t index) {
+    const char *given = asked->record;
+    if (!given) records_open(&log->records, log->file.path, store_leaves(log), 0, 0);
+    if (!given && log->records.open && index >= log->records.first && index < store_leaves(log)) {
+        if (records_read(&log->records, index, &record) != 0)
+            fail("%s or %s is damaged: the record of index %" PRIu64 " cannot be read. Give it with --record FILE", log->records.bytes_path,
+                 log->records.ends_path, index);
+        return 1;
+    }
+    read_input(&record, given && strcmp(given, "-") != 0 ? given : NULL, LONGEST_RECORD + 1);
+    return 0;
+}
+
+/* A record that is not the leaf's: the leaf is damaged, or the record that was kept is, or it is another record. */
+static int other_record(const Store *log, uint64_t size, uint64_t index, int was_kept) {
+    demand_way(log, size, index);
+    if (was_kept)
+        fail("%s is damaged: the record of index %" PRIu64 " is not the one that was logged. Nothing was written; keeper verify %s --records looks "
+             "further, and --record FILE gives the record.", log->records.bytes_path, index, log->file.path);
+    return refused("letter", KEEPER_OTHER_RECORD);
+}
+
+/* A letter is held to the log's own root before it goes out. */
+static void demand_accepted(const Store *log, uint64_t size, uint64_t index, const uint8_t top[NODE]) {
+    uint64_t named;
+    size_t at, length;
+    if (keeper_letter_check(size, top, NODE, written.bytes, written.length, &named, &at, &length) == KEEPER_DONE && named == index) return;
+    demand_way(log, size, index);
+    fail_damaged(log, NULL);
+}
+
+int write_letter(const Asked *asked) {
+    Store log;
+    uint8_t top[NODE];
+    demand_words(asked, 2, 2);
+    uint64_t index = number_in(asked->words[1], "record's index");
+    if (!asked->json && isatty(STDOUT_FILENO)) fail("a letter is bytes and no text: send it to a file, >LETTER");
+    store_open(&log, asked->words[0], TO_READ, 0);
+    uint64_t size = size_asked(&log, asked);
+    int was_kept = take_record(&log, asked, index);
+    uint32_t number = keeper_letter_write(size, index, record.bytes, record.length, store_nodes(&log), lent(&log), written.bytes,
+                                          sizeof written.bytes, &written.length);
+    if (number == KEEPER_OTHER_RECORD) return other_record(&log, size, index, was_kept);
+    if (number == KEEPER_DONE) number = trusted_root(&log, size, top);
+    if (number != KEEPER_DONE) return refused("letter", number);
+    demand_accepted(&log, size, index, top);
+    if (!asked->json) fwrite(written.bytes, 1, written.length, stdout);
+    put_number("size", size);
+    put_bytes("root", top, NODE);
+    put_number("index", index);
+    put_record(record.bytes, record.length);
+    put_bytes("letter", written.bytes, written.length);
+    store_close(&log);
+    return DONE;
+}
+
+/* ---- find */
+
+static void tell_pair(const uint8_t ours[PAIR], const uint8_t theirs[PAIR]) {
+    char digits[2][2 * PAIR + 1];
+    hex_of(ours, PAIR, digits[0]);
+    hex_of(theirs, PAIR, digits[1]);
+    line("pair: two strings of 64 bytes differ and have one digest, the log's and the letter's\n%s\n%s", digits[0], digits[1]);
+    put_text("log_input", digits[0]);
+    put_text("letter_input", digits[1]);
+}
+
+int find(const Asked *asked) {
+    Store log;
+    uint8_t ours[PAIR], theirs[PAIR];
+    uint32_t found;
+    demand_words(asked, 3, 3);
+    store_open(&log, asked->words[0], TO_READ, 0);
+    uint64_t size = size_asked(&log, asked);
+    read_input(&record, asked->words[1], LONGEST_RECORD + 1);
+    read_input(&written, asked->words[2], LONGEST_LETTER + 1);
+    uint32_t number = keeper_find(size, store_nodes(&log), lent(&log), record.bytes, record.length, written.bytes, written.length, ours, PAIR, theirs,
+                                  PAIR, &found);
+    if (number != KEEPER_DONE) return refused("find", number);
+    put_number("size", size);
+    put_text("found", found == KEEPER_SAME ? "same" : found == KEEPER_RECORDS ? "records" : "pair");
+    if (found == KEEPER_SAME) line("same: the letter is the log's own");
+    if (found == KEEPER_RECORDS) line("records: the record and the letter's differ and have one digest");
+    if (found == KEEPER_PAIR) tell_pair(ours, theirs);
+    store_close(&log);
+    return DONE;
+}

@@ -1,0 +1,35 @@
+/* The numbers that a call of the library answers, in words. */
+#include "keeper.h"
+#include "numbers.h"
+
+static const Words words[] = {
+    [KEEPER_DONE] = {"done", "Nothing."},
+    [KEEPER_NO_SUCH_SIZE] = {"no log has this size",
+                             "Compare the size with the one that was noted; a log file with such a size is damaged: take its copy."},
+    [KEEPER_TOO_MANY_LEAVES] = {"the log is full, at 4,294,967,296 records", "Begin another log."},
+    [KEEPER_RECORD_TOO_LONG] = {"the record is longer than 16,384 bytes", "Cut the record into parts, or log its digest in its place."},
+    [KEEPER_NODES_TOO_SHORT] = {"the log holds fewer nodes than this size says",
+                                "Compare the size with the one that was noted: the log has not grown to it, or it is another log."},
+    [KEEPER_NO_SUCH_LEAF] = {"the log has no record with this index", "Indexes begin with 0 and end one below the number of records."},
+    [KEEPER_OUTPUT_TOO_SHORT] = {"the room for the answer is too short", "This is a fault of the host: report it."},
+    [KEEPER_NOT_A_LETTER] = {"the letter does not have the length that it must have",
+                              "Do not accept it: it was cut, or something was added. Ask for the whole letter."},
+    [KEEPER_OTHER_SIZE] = {"the letter is for a log of another size",
+                           "Do not accept it: ask for a letter for the size that was noted."},
+    [KEEPER_OTHER_ROOT] = {"the root worked out from the letter is another one",
+                           "Do not accept it: this record was not logged at this index, or size and root are another log's."},
+    [KEEPER_EMPTY_LOG] = {"the log is empty and has no root", "Append a record first."},
+    [KEEPER_NOT_A_NODE] = {"the stored node has an unknown flag or a wrong length", "The stored node is damaged: take its copy."},
+    [KEEPER_NOT_A_DIGEST] = {"the trusted root is not of 32 bytes", "Give the root as 64 hexadecimal digits."},
+    [KEEPER_OTHER_RECORD] = {"the record is not the one that was logged at this index",
+                             "Give the record as it was appended, byte for byte, and its own index."},
+    [KEEPER_DAMAGED_NODES] = {"a node above the record is not the digest of the two nodes below it",
+                            "The log file is damaged: keeper verify looks further."},
+    [KEEPER_TOO_MANY_ITEMS] = {"the letter would need more than 32 items", "No log within the limits needs so many: report it."},
+};
+
+static const Words unknown = {"a number that this host does not know", "Host and library are of different versions: build both."};
+
+const Words *words_of(uint32_t number) {
+    return number < sizeof words / sizeof *words && words[number].meaning ? &words[number] : &unknown;
+}

@@ -1,0 +1,26 @@
+/* The two pages at the beginning of a log's file that hold its size and root, each page twice. */
+#ifndef SIZES_H
+#define SIZES_H
+#include <stdint.h>
+#include "tree.h"
+
+/* A page has a copy at its start and one in its middle, so that the two lie in different sectors of a disk. */
+enum { SIZE_PAGE = 4096, SIZE_COPY = 2048, SIZES = 2 * SIZE_PAGE };
+
+/* A state of the log: the size, and the root of the nodes below it (zeros for none). */
+typedef struct {
+    uint64_t size;
+    uint8_t root[NODE];
+} State;
+
+/* What the two pages say. */
+typedef struct {
+    State states[2]; /* of each page, by its whole copy with the greater size */
+    int whole[2];    /* how many whole copies each page has */
+    int damaged;     /* how many copies are neither whole nor all zeros; a log made before copies has zeros there */
+} Sizes;
+
+void read_sizes(const uint8_t pages[SIZES], Sizes *sizes);
+void fill_page(const State *state, uint8_t page[SIZE_PAGE]);
+
+#endif

@@ -1,0 +1,259 @@
+/* What stands in for the library in tests under sanitizers, on a machine whose own code the library is not: the calls of keeper.h that the host makes,
+   once more, in plain C. Nothing is proved of it, and no host that people run has it. The tests hold it to the second program as they hold the host. */
+#include <string.h>
+#include "keeper.h"
+
+enum { NODE = 32, BLOCK = 64, CHUNK = 1024, LONGEST = 16384, HEAD = 20 };
+enum { START = 1, END = 2, PARENT = 4, TOP = 8 };
+
+/* ---- BLAKE3 */
+
+static const uint32_t starting[8] = {0x6A09E667, 0xBB67AE85, 0x3C6EF372, 0xA54FF53A, 0x510E527F, 0x9B05688C, 0x1F83D9AB, 0x5BE0CD19};
+static const uint8_t order[16] = {2, 6, 3, 10, 7, 0, 4, 13, 1, 11, 12, 5, 9, 14, 15, 8};
+
+static uint32_t turn(uint32_t word, int by) { return word >> by | word << (32 - by); }
+
+static void mix(uint32_t *v, int a, int b, int c, int d, uint32_t x, uint32_t y) {
+    v[a] += v[b] + x, v[d] = turn(v[d] ^ v[a], 16), v[c] += v[d], v[b] = turn(v[b] ^ v[c], 12);
+    v[a] += v[b] + y, v[d] = turn(v[d] ^ v[a], 8), v[c] += v[d], v[b] = turn(v[b] ^ v[c], 7);
+}
+
+static void compress(uint32_t chain[8], const uint8_t block[BLOCK], uint64_t counter, uint32_t length, uint32_t flags) {
+    uint32_t m[16], next[16], v[16];
+    for (int i = 0; i < 16; i++) m[i] = block[4 * i] | (uint32_t)block[4 * i + 1] << 8 | (uint32_t)block[4 * i + 2] << 16 | (uint32_t)block[4 * i + 3] << 24;
+    memcpy(v, chain, 32);
+    memcpy(v + 8, starting, 16);
+    v[12] = (uint32_t)counter, v[13] = (uint32_t)(counter >> 32), v[14] = length, v[15] = flags;
+    for (int round = 0; round < 7; round++) {
+        for (int i = 0; i < 4; i++) mix(v, i, 4 + i, 8 + i, 12 + i, m[2 * i], m[2 * i + 1]);
+        for (int i = 0; i < 4; i++) mix(v, i, 4 + (i + 1) % 4, 8 + (i + 2) % 4, 12 + (i + 3) % 4, m[8 + 2 * i], m[9 + 2 * i]);
+        for (int i = 0; i < 16; i++) next[i] = m[order[i]];
+        memcpy(m, next, sizeof m);
+    }
+    for (int i = 0; i < 8; i++) chain[i] = v[i] ^ v[i + 8];
+}
+
+static void hash_chunk(const uint8_t *bytes, size_t length, uint64_t counter, uint32_t top, uint32_t chain[8]) {
+    memcpy(chain, starting, 32);
+    for (size_t at = 0; at == 0 || at < length; at += BLOCK) {
+        uint8_t block[BLOCK] = {0};
+        size_t part = length - at < BLOCK ? length - at : BLOCK;
+        if (part > 0) memcpy(block, bytes + at, part);
+        uint32_t last = at + BLOCK >= length ? END | top : 0;
+        compress(chain, block, counter, (uint32_t)part, (at == 0 ? START : 0) | last);
+    }
+}
+
+static void put_words(const uint32_t chain[8], uint8_t *out) {
+    for (int i = 0; i < 32; i++) out[i] = (uint8_t)(chain[i / 4] >> 8 * (i % 4));
+}
+
+static void hash_tree(const uint8_t *bytes, size_t length, uint64_t counter, uint32_t top, uint32_t chain[8]) {
+    uint8_t pair[BLOCK];
+    size_t left = CHUNK;
+    if (length <= CHUNK) {
+        hash_chunk(bytes, length, counter, top, chain);
+        return;
+    }
+    while (2 * left < length) left *= 2;
+    hash_tree(bytes, left, counter, 0, chain);
+    put_words(chain, pair);
+    hash_tree(bytes + left, length - left, counter + left / CHUNK, 0, chain);
+    put_words(chain, pair + NODE);
+    memcpy(chain, starting, 32);
+    compress(chain, pair, 0, BLOCK, PARENT | top);
+}
+
+static void digest(const uint8_t *bytes, size_t length, uint8_t *out) {
+    uint32_t chain[8];
+    hash_tree(bytes, length, 0, TOP, chain);
+    put_words(chain, out);
+}
+
+static void digest_pair(const uint8_t *left, const uint8_t *right, uint8_t *out) {
+    uint8_t pair[BLOCK];
+    memcpy(pair, left, NODE);
+    memcpy(pair + NODE, right, NODE);
+    digest(pair, BLOCK, out);
+}
+
+/* ---- the calls */
+
+static const uint64_t most = (uint64_t)1 << 32;
+static uint64_t size_of(uint64_t leaves) { return 2 * leaves - (uint64_t)__builtin_popcountll(leaves); }
+
+uint32_t keeper_digest(const uint8_t *bytes, size_t len, uint8_t *out, size_t out_len) {
+    if (out_len < NODE) return KEEPER_OUTPUT_TOO_SHORT;
+    uint8_t result[NODE];
+    digest(bytes, len, result);
+    memcpy(out, result, NODE);
+    return KEEPER_DONE;
+}
+
+uint32_t keeper_leaf_position(uint64_t index, uint64_t *position) {
+    if (index >= most) return KEEPER_NO_SUCH_LEAF;
+    *position = size_of(index);
+    return KEEPER_DONE;
+}
+
+uint32_t keeper_leaf_count(uint64_t size, uint64_t *leaves) {
+    uint64_t low = 0, high = most;
+    while (low < high) {
+        uint64_t middle = (low + high) / 2;
+        if (size_of(middle) < size) low = middle + 1;
+        else high = middle;
+    }
+    if (size_of(low) != size) return KEEPER_NO_SUCH_SIZE;
+    *leaves = low;
+    return KEEPER_DONE;
+}
+
+uint32_t keeper_append(uint64_t size, const uint8_t *record, size_t record_len, uint8_t *nodes, size_t nodes_len, uint64_t *new_size, uint64_t *hashes) {
+    uint64_t leaves, at = size;
+    if (keeper_leaf_count(size, &leaves) != KEEPER_DONE) return KEEPER_NO_SUCH_SIZE;
+    if (leaves == most) return KEEPER_TOO_MANY_LEAVES;
+    if (record_len > LONGEST) return KEEPER_RECORD_TOO_LONG;
+    if (nodes_len / NODE < size_of(leaves + 1)) return KEEPER_NODES_TOO_SHORT;
+    digest(record, record_len, nodes + NODE * at);
+    for (unsigned height = 1; leaves >> (height - 1) & 1; height++, at++)
+        digest_pair(nodes + NODE * (at + 1 - ((uint64_t)1 << height)), nodes + NODE * at, nodes + NODE * (at + 1));
+    *new_size = at + 1;
+    *hashes = at + 1 - size;
+    return KEEPER_DONE;
+}
+
+/* The peaks from one leaf on, folded. */
+static void fold_from(uint64_t leaves, uint64_t first, const uint8_t *nodes, uint8_t *out) {
+    int some = 0;
+    for (uint64_t left = leaves; left > first; left &= left - 1) {
+        const uint8_t *peak = nodes + NODE * (size_of(left) - 1);
+        if (some++) digest_pair(peak, out, out);
+        else memcpy(out, peak, NODE);
+    }
+}
+
+uint32_t keeper_root(uint64_t size, const uint8_t *nodes, size_t nodes_len, uint8_t *out, size_t out_len) {
+    uint64_t leaves;
+    if (keeper_leaf_count(size, &leaves) != KEEPER_DONE) return KEEPER_NO_SUCH_SIZE;
+    if (leaves == 0) return KEEPER_EMPTY_LOG;
+    if (nodes_len / NODE < size) return KEEPER_NODES_TOO_SHORT;
+    if (out_len < NODE) return KEEPER_OUTPUT_TOO_SHORT;
+    fold_from(leaves, 0, nodes, out);
+    return KEEPER_DONE;
+}
+
+static void put_number(uint8_t *at, int width, uint64_t number) {
+    while (width-- > 0) at[width] = (uint8_t)number, number >>= 8;
+}
+
+static uint64_t number_at(const uint8_t *at, int width) {
+    uint64_t number = 0;
+    for (int i = 0; i < width; i++) number = number << 8 | at[i];
+    return number;
+}
+
+/* The height of an index's peak, the first leaf of the peak, and how many peaks are to its left. */
+static unsigned peak_of(uint64_t leaves, uint64_t index, uint64_t *first, unsigned *lefts) {
+    unsigned height = 32;
+    for (*first = 0, *lefts = 0;; height--) {
+        if (!(leaves >> height & 1)) continue;
+        if (index - *first < (uint64_t)1 << height) return height;
+        *first += (uint64_t)1 << height;
+        ++*lefts;
+    }
+}
+
+static uint64_t place(uint64_t index, unsigned height) { return size_of(index >> height << height) + ((uint64_t)2 << height) - 2; }
+
+uint32_t keeper_letter_write(uint64_t size, uint64_t index, const uint8_t *record, size_t record_len, const uint8_t *nodes, size_t nodes_len, uint8_t *out,
+                             size_t out_len, size_t *length) {
+    uint64_t leaves, first;
+    unsigned lefts, done = 0;
+    uint8_t leaf[NODE], items[33 * NODE];
+    if (keeper_leaf_count(size, &leaves) != KEEPER_DONE) return KEEPER_NO_SUCH_SIZE;
+    if (index >= leaves) return KEEPER_NO_SUCH_LEAF;
+    if (record_len > LONGEST) return KEEPER_RECORD_TOO_LONG;
+    if (nodes_len / NODE < size) return KEEPER_NODES_TOO_SHORT;
+    digest(record, record_len, leaf);
+    if (memcmp(leaf, nodes + NODE * size_of(index), NODE) != 0) return KEEPER_OTHER_RECORD;
+    unsigned height = peak_of(leaves, index, &first, &lefts);
+    for (uint64_t left = first, k = lefts; k-- > 0; left &= left - 1, done++) memcpy(items + NODE * k, nodes + NODE * (size_of(left) - 1), NODE);
+    for (unsigned k = 0; k < height; k++) memcpy(items + NODE * done++, nodes + NODE * place(index ^ (uint64_t)1 << k, k), NODE);
+    if (first + ((uint64_t)1 << height) < leaves) fold_from(leaves, first + ((uint64_t)1 << height), nodes, items + NODE * done++);
+    if (out_len < HEAD + record_len + NODE * done) return KEEPER_OUTPUT_TOO_SHORT;
+    put_number(out, 8, size), put_number(out + 8, 8, index), put_number(out + 16, 4, record_len);
+    if (record_len > 0) memcpy(out + HEAD, record, record_len);
+    memcpy(out + HEAD + record_len, items, NODE * done);
+    *length = HEAD + record_len + NODE * done;
+    return KEEPER_DONE;
+}
+
+/* The letter's root, from its items. */
+static void work_out(uint64_t leaves, const uint8_t *letter, size_t record_len, uint8_t top[NODE]) {
+    uint64_t first, index = number_at(letter + 8, 8);
+    unsigned lefts, height = peak_of(leaves, index, &first, &lefts);
+    const uint8_t *items = letter + HEAD + record_len;
+    digest(letter + HEAD, record_len, top);
+    for (unsigned k = 0; k < height; k++) {
+        const uint8_t *item = items + NODE * (lefts + k);
+        if (index >> k & 1) digest_pair(item, top, top);
+        else digest_pair(top, item, top);
+    }
+    if (first + ((uint64_t)1 << height) < leaves) digest_pair(top, items + NODE * (lefts + height), top);
+    while (lefts-- > 0) digest_pair(items + NODE * lefts, top, top);
+}
+
+static uint32_t check_fields(uint64_t size, const uint8_t *root, const uint8_t *letter, size_t letter_len) {
+    uint64_t leaves = 0, first;
+    unsigned lefts;
+    uint8_t top[NODE];
+    keeper_leaf_count(size, &leaves);
+    if (letter_len < HEAD) return KEEPER_NOT_A_LETTER;
+    if (number_at(letter, 8) != size) return KEEPER_OTHER_SIZE;
+    if (number_at(letter + 8, 8) >= leaves) return KEEPER_NO_SUCH_LEAF;
+    size_t stated = (size_t)number_at(letter + 16, 4);
+    if (stated > LONGEST) return KEEPER_RECORD_TOO_LONG;
+    unsigned height = peak_of(leaves, number_at(letter + 8, 8), &first, &lefts);
+    unsigned items = lefts + height + (first + ((uint64_t)1 << height) < leaves);
+    if (letter_len != HEAD + stated + NODE * items) return KEEPER_NOT_A_LETTER;
+    work_out(leaves, letter, stated, top);
+    return memcmp(top, root, NODE) == 0 ? KEEPER_DONE : KEEPER_OTHER_ROOT;
+}
+
+uint32_t keeper_letter_check(uint64_t size, const uint8_t *root, size_t root_len, const uint8_t *letter, size_t letter_len, uint64_t *index, size_t *record_at,
+                             size_t *record_len) {
+    uint64_t leaves;
+    if (keeper_leaf_count(size, &leaves) != KEEPER_DONE) return KEEPER_NO_SUCH_SIZE;
+    if (root_len != NODE) return KEEPER_NOT_A_DIGEST;
+    uint32_t number = check_fields(size, root, letter, letter_len);
+    if (number != KEEPER_DONE) return number;
+    *index = number_at(letter + 8, 8);
+    *record_at = HEAD;
+    *record_len = (size_t)number_at(letter + 16, 4);
+    return KEEPER_DONE;
+}
+
+/* "pair" and "records" want two strings of one digest, which no test has: a letter that is accepted is the log's own here. */
+uint32_t keeper_find(uint64_t size, const uint8_t *nodes, size_t nodes_len, const uint8_t *record, size_t record_len, const uint8_t *letter, size_t letter_len,
+                     uint8_t *log_input, size_t log_input_len, uint8_t *letter_input, size_t letter_input_len, uint32_t *found) {
+    uint8_t top[NODE], own[NODE];
+    uint32_t number = keeper_root(size, nodes, nodes_len, top, NODE);
+    (void)log_input, (void)letter_input;
+    if (number == KEEPER_DONE) number = check_fields(size, top, letter, letter_len);
+    if (number != KEEPER_DONE) return number;
+    uint64_t index = number_at(letter + 8, 8), leaves = 0, first;
+    unsigned lefts;
+    if (record_len > LONGEST) return KEEPER_RECORD_TOO_LONG;
+    digest(record, record_len, own);
+    if (memcmp(own, nodes + NODE * size_of(index), NODE) != 0) return KEEPER_OTHER_RECORD;
+    keeper_leaf_count(size, &leaves);
+    unsigned height = peak_of(leaves, index, &first, &lefts);
+    for (unsigned k = 1; k <= height; k++) {
+        const uint8_t *parent = nodes + NODE * place(index, k);
+        digest_pair(parent - NODE * ((uint64_t)1 << k), parent - NODE, own);
+        if (memcmp(own, parent, NODE) != 0) return KEEPER_DAMAGED_NODES;
+    }
+    if (log_input_len < BLOCK || letter_input_len < BLOCK) return KEEPER_OUTPUT_TOO_SHORT;
+    *found = KEEPER_SAME;
+    return KEEPER_DONE;
+}

@@ -1,0 +1,116 @@
+"""Crashes: kill -9 at random moments inside writes, and a disk whose power fails at each step."""
+import os
+import random
+import shutil
+import subprocess
+import time
+import unittest
+
+from harness import KEEPER, LOSSY, RECORDS, HostTest, keeper, nodes_of, run_record, said_of, stream_of
+
+
+class Killed(HostTest):
+    def killed(self, chance, records, *options):
+        """A stream of these records, ended by kill -9 at a random moment: the greatest size that it acknowledged."""
+        words = [KEEPER, "append", self.log, "--stream", "--acknowledge", *options]
+        with subprocess.Popen(words, stdin=subprocess.PIPE, stdout=subprocess.PIPE) as writer:
+            for record in records:
+                if writer.poll() is None:
+                    writer.stdin.write(stream_of([record]))
+                    writer.stdin.flush()
+                time.sleep(chance.random() / 150)
+            said = writer.stdout.readline() if chance.random() < 0.6 and writer.poll() is None else b""
+            time.sleep(chance.random() / 30)
+            writer.kill()
+            said = (said + writer.stdout.read()).splitlines()
+        sizes = [int(line.split()[2].rstrip(b",")) for line in said if line.startswith(b"kept: size ") and line.endswith(b"records")]
+        return max(sizes, default=0)
+
+    def test_in_a_loop(self):
+        """What was acknowledged is there after every kill, the log is whole, and the next stream goes on from it."""
+        chance, records, kept, acknowledged = random.Random(1), [run_record(i, 40) for i in range(400)], 0, 0
+        for turn in range(25):
+            size = self.killed(chance, records[kept:kept + 8], *(("--keep-records",) if turn % 2 else ()))
+            before, kept = kept, self.records_in()
+            self.assertTrue(before <= kept <= before + 8)
+            self.assertLessEqual(size, nodes_of(kept))
+            acknowledged += size > 0
+            if self.log.exists():
+                self.done("verify", self.log)
+        self.assertGreater(acknowledged, 5)
+        self.done("append", self.log, "--stream", given=stream_of(records[kept:kept + 5]))
+        self.holds(records[:kept + 5])
+        first = self.object(0, "info", self.log)["records_kept_from"]
+        self.done("verify", self.log, "--records")
+        self.assertIn(records[kept + 1], self.done("letter", self.log, kept + 1))
+        self.assertLess(first, kept)
+
+    def test_large_groups(self):
+        """Killed while much is being written: whole groups or nothing of one."""
+        chance, given = random.Random(2), stream_of([bytes(200)] * 20000)
+        for _ in range(6):
+            before = self.records_in()
+            with subprocess.Popen([KEEPER, "append", self.log, "--stream"], stdin=subprocess.PIPE, stdout=subprocess.DEVNULL) as writer:
+                try:
+                    writer.stdin.write(given[:chance.randrange(len(given))])
+                    time.sleep(chance.random() / 20)
+                except BrokenPipeError:
+                    pass
+                writer.kill()
+                writer.stdin.close()
+            self.assertGreaterEqual(self.records_in(), before)
+            if self.log.exists():
+                self.done("verify", self.log)
+
+
+@unittest.skipUnless(LOSSY, "LOSSY names no program")
+class PowerFails(HostTest):
+    def setUp(self):
+        super().setUp()
+        self.disk = self.folder / "disk"
+        self.disk.mkdir()
+
+    def fails(self, before, step, luck, records):
+        """An append on the disk whose power fails at that step: the exit status, and then the files are what is on the disk."""
+        for name, data in before.items():
+            (self.folder / name).write_bytes(data)
+            (self.disk / name).write_bytes(data)
+        files = [self.file(f"record{i}", record) for i, record in enumerate(records)]
+        settings = {**os.environ, "LOSSY_DISK": str(self.disk), "LOSSY_STEP": str(step), "LOSSY_LUCK": str(luck)}
+        ran = subprocess.run([LOSSY, "append", self.log, *files], env=settings, capture_output=True, check=False)
+        for name in before:
+            shutil.copy(self.disk / name, self.folder / name)
+        return ran.returncode
+
+    def tried(self, names, steps, counts):
+        """Every step and every luck: the log has the records of before or all, is whole, and takes the next."""
+        ends = set()
+        for count in counts:
+            before = {name: (self.folder / name).read_bytes() for name in names}
+            for step in range(1, steps + 1):
+                for luck in range(6):
+                    status = self.fails(before, step, luck, RECORDS[count:count + 2])
+                    held = self.records_in()
+                    self.assertIn(held, {count, count + 2} if status == 99 else {count + 2})
+                    self.ran(0, "", "verify", self.log, *(("--records",) if len(names) > 1 else ()))
+                    self.ran(0, "", "append", self.log, given=RECORDS[held])
+                    self.assertEqual(self.log.read_bytes()[8192:8192 + 32 * nodes_of(held + 1)], said_of(RECORDS[:held + 1])[2])
+                    ends.add((step, held - count))
+            for name, data in before.items():
+                (self.folder / name).write_bytes(data)
+            self.done("append", self.log, given=RECORDS[count])
+        return ends
+
+    def test_log(self):
+        self.make(RECORDS[:3])
+        ends = self.tried(("log",), 4, (3, 4))
+        self.assertTrue({(1, 0), (2, 0), (3, 0), (3, 2), (4, 2)} <= ends, ends)
+
+    def test_log_and_records(self):
+        self.done("append", self.log, "--stream", "--keep-records", given=stream_of(RECORDS[:3]))
+        ends = self.tried(("log", "log.records", "log.index"), 6, (3,))
+        self.assertTrue({(1, 0), (2, 0), (3, 0), (4, 0), (5, 0), (5, 2), (6, 2)} <= ends, ends)
+
+
+if __name__ == "__main__":
+    unittest.main()

@@ -1,0 +1,43 @@
+"""Wrong use: words, and no file is made."""
+import unittest
+
+from harness import RECORDS, HostTest, keeper
+
+
+class WrongUse(HostTest):
+    def test_words(self):
+        self.make(RECORDS[:1])
+        for words in ((), ("root",), ("roots", self.log), ("root", self.log, "--byte"), ("root", self.log, "more"), ("root", self.log, "--bytes=1"),
+                      ("append",), ("append", self.log, "--folder"), ("append", self.log, "--other"), ("append", self.log, "--acknowledge"),
+                      ("append", self.log, "--stream", "--folder", "x"), ("append", self.log, "file", "--stream"), ("root", self.log, "--bytes", "--json"),
+                      ("check", 1), ("check", 1, "00", "--record"), ("check", 1, "00", "letter", "--page", "x"), ("find", self.log), ("letter", self.log),
+                      ("repair", self.log), ("verify", self.log, "--size", "1"), ("--stream",)):
+            ran = keeper(*words)
+            self.assertEqual(ran.returncode, 2, words)
+            self.assertIn(b"wrong use", ran.stderr)
+        for size in ("-1", "x", "", "1 ", str(2**64), "0x1"):
+            self.ran(2, "", "check", "--", size, "00")
+        for top in ("0", "0g", "xyz!"):
+            self.failed("hexadecimal", "check", 1, top)
+        self.failed("no number of seconds", "append", self.log, "--wait", "soon", given=b"x")
+        self.holds(RECORDS[:1])
+
+    def test_help_and_version(self):
+        for words in (("help",), ("--help",), ("-h",), ("append", "-h"), ("root", "--help")):
+            self.assertIn(b"keeper append LOG", self.done(*words))
+        self.assertRegex(self.done("--version"), rb"^keeper \(Cinchcleat\) \d+\.\d+\n$")
+
+    def test_files(self):
+        for words in (("root", self.log), ("letter", self.log, 0), ("append", self.folder / "no" / "log"), ("root", self.folder), ("info", self.log),
+                      ("verify", self.log), ("repair", self.log, self.folder / "copy")):
+            self.failed("keeper: ", *words)
+        self.assertEqual(list(self.folder.iterdir()), [])
+
+    def test_names_that_look_like_options(self):
+        name = self.file("--stream", b"record")
+        self.done("append", self.log, "--", name.name, cwd=self.folder)
+        self.holds([b"record"])
+
+
+if __name__ == "__main__":
+    unittest.main()
