@@ -13,7 +13,8 @@ from rules.stored import stored_inner, stored_leaf
 TOP = Path(__file__).resolve().parent.parent
 PAGE = TOP / "docs" / "RULES.md"
 # Where sections are cited.
-CITING = ("second/**/*.py", "outside/**/*.[pc]*", "vectors/*", "include/*.h", "hosts/*.[chp]*", "docs/*.md", "crates/**/*.rt", "crates/**/*.antt")
+CITING = ("second/**/*.py", "outside/**/*.[pc]*", "vectors/*", "include/*.h", "hosts/*.[chp]*", "README.md", "docs/*.md", "crates/**/*.md",
+          "crates/**/*.rt", "crates/**/*.antt")
 RECORDS = (b"goal", b"no goal", b"corner")
 # Section 9.3: the name of an example, the leaf count, the index.
 ITEMS = (("", 1, 0), ("", 2, 1), ("", 3, 2), ("M14", 5, 2), ("M15", 7, 4), ("M16", 7, 0), ("", 8, 3), ("", 11, 9))

@@ -1,9 +1,11 @@
 #!/bin/sh
-# shell/check.sh: every shell script of the repository by shellcheck, which is installed by its Debian name where it is missing.
-# Exit status: 0 where nothing is found; 1 where something is; 2 where shellcheck could not be had.
+# shell/check.sh: every shell script of the repository by shellcheck.
+# Exit status: 0 where nothing is found; 1 where something is; 2 where there is no shellcheck.
 set -eu
+here=$(readlink -f -- "$0")
+top=${here%/*/*}
 # shellcheck source=shell/common.sh
-. "$(dirname "$0")/common.sh"
+. "$top/shell/common.sh"
 need_command shellcheck shellcheck
 cd "$top"
 # Those of bin/ that a shell runs, and every other script.
