@@ -155,8 +155,8 @@ static void tell_pair(const uint8_t ours[PAIR], const uint8_t theirs[PAIR]) {
     hex_of(ours, PAIR, digits[0]);
     hex_of(theirs, PAIR, digits[1]);
     line("pair: two strings of 64 bytes differ and have one digest, the log's and the letter's\n%s\n%s", digits[0], digits[1]);
-    put_text("log_input", digits[0]);
-    put_text("letter_input", digits[1]);
+    put_text("first", digits[0]);
+    put_text("second", digits[1]);
 }
 
 int find(const Asked *asked) {

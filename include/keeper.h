@@ -66,7 +66,7 @@ enum {
 };
 
 /* The digest, BLAKE3's plain hash of 32 bytes, of any bytes, into the first 32 bytes of out. 6. */
-uint32_t keeper_digest(const uint8_t *bytes, size_t len, uint8_t *out, size_t out_len);
+uint32_t keeper_digest(const uint8_t *bytes, size_t bytes_len, uint8_t *out, size_t out_len);
 
 /* The size of so many leaves: 2n minus the number of ones in n. 2. */
 uint32_t keeper_size(uint64_t leaves, uint64_t *size);
@@ -80,28 +80,28 @@ uint32_t keeper_leaf_count(uint64_t size, uint64_t *leaves);
 /* One more record. nodes holds the log's digests, the one at position p in bytes 32p to 32p + 31; bytes beyond the size mean nothing. Writes the
    leaf, then as many parents as the leaf count has trailing ones, from byte 32 x size on. new_size is the size with them, hashes how many
    digests were worked out. 1, 2, 3, 4. */
-uint32_t keeper_append(uint64_t size, const uint8_t *record, size_t record_len, uint8_t *nodes, size_t nodes_len,
+uint32_t keeper_append(uint64_t size, const uint8_t *rec, size_t rec_len, uint8_t *nodes, size_t nodes_len,
                        uint64_t *new_size, uint64_t *hashes);
 
 /* The root, into the first 32 bytes of out: the rightmost peak, folded leftward. 1, 10, 4, 6. */
 uint32_t keeper_root(uint64_t size, const uint8_t *nodes, size_t nodes_len, uint8_t *out, size_t out_len);
 
 /* A stored leaf, into the first bytes of out: byte 01, digest, record length (4 bytes, big-endian), record. The digest is worked out from the
-   record. length is how many bytes were written, 37 + record_len. 3, 6. */
-uint32_t keeper_store_leaf(const uint8_t *record, size_t record_len, uint8_t *out, size_t out_len, size_t *length);
+   record. length is how many bytes were written, 37 + rec_len. 3, 6. */
+uint32_t keeper_store_leaf(const uint8_t *rec, size_t rec_len, uint8_t *out, size_t out_len, size_t *length);
 
 /* A stored inner node, into the first bytes of out: byte 00, digest. length is how many bytes were written, 33. 12, 6. */
 uint32_t keeper_store_inner(const uint8_t *digest, size_t digest_len, uint8_t *out, size_t out_len, size_t *length);
 
-/* A stored node, read: its kind, KEEPER_INNER or KEEPER_LEAF; its digest, taken as it stands, into the first 32 bytes of digest_out; its record,
+/* A stored node, read: its kind, KEEPER_INNER or KEEPER_LEAF; its digest, taken as it stands, into the first 32 bytes of out; its record,
    which is the record_len bytes from bytes + record_at on, none for an inner node. 11 (its form), 3, 11 (the exact length), 6. */
-uint32_t keeper_read_node(const uint8_t *bytes, size_t len, uint32_t *kind, uint8_t *digest_out, size_t digest_out_len, size_t *record_at,
+uint32_t keeper_read_node(const uint8_t *bytes, size_t bytes_len, uint32_t *kind, uint8_t *out, size_t out_len, size_t *record_at,
                           size_t *record_len);
 
 /* The letter of an index, into the first bytes of out: size (8), index (8), record length (4), all big-endian; record; items of 32 bytes. The
-   record is the one that was logged there, and nodes the log's. length is how many bytes were written, 20 + record_len + 32 for each item, of
+   record is the one that was logged there, and nodes the log's. length is how many bytes were written, 20 + rec_len + 32 for each item, of
    which there are at most 32. 1, 5, 3, 4, 15, 13, 6. */
-uint32_t keeper_letter_write(uint64_t size, uint64_t index, const uint8_t *record, size_t record_len, const uint8_t *nodes, size_t nodes_len,
+uint32_t keeper_letter_write(uint64_t size, uint64_t index, const uint8_t *rec, size_t rec_len, const uint8_t *nodes, size_t nodes_len,
                              uint8_t *out, size_t out_len, size_t *length);
 
 /* A letter, checked against a size and a root that the caller trusts: its index, and its record, which is the record_len bytes from
@@ -109,13 +109,13 @@ uint32_t keeper_letter_write(uint64_t size, uint64_t index, const uint8_t *recor
 uint32_t keeper_letter_check(uint64_t size, const uint8_t *root, size_t root_len, const uint8_t *letter, size_t letter_len,
                              uint64_t *index, size_t *record_at, size_t *record_len);
 
-/* A letter compared with the log, where the log's own nodes accept it: record is the one that the log has at the letter's index. Compares, from the
+/* A letter compared with the log, where the log's own nodes accept it: rec is the record that the log has at the letter's index. Compares, from the
    root down, each 64-byte input of the log with that of the letter. At the first difference found is KEEPER_PAIR, with the log's input in the first
    64 bytes of first and the letter's in those of second: two different strings with one digest. With none it compares the records:
-   KEEPER_RECORDS if they differ (record and the letter's are then the two strings), else KEEPER_SAME. The buffers change only for KEEPER_PAIR.
-   1, 10, 4, then with the root of its own nodes 7 (under 20 bytes), 8, 5, 15, 3, 7 (the exact length), 9, then for record 3 and 13, then 14,
+   KEEPER_RECORDS if they differ (rec and the letter's are then the two strings), else KEEPER_SAME. The buffers change only for KEEPER_PAIR.
+   1, 10, 4, then with the root of its own nodes 7 (under 20 bytes), 8, 5, 15, 3, 7 (the exact length), 9, then for rec 3 and 13, then 14,
    6 (either buffer under 64, whatever the outcome). */
-uint32_t keeper_find(uint64_t size, const uint8_t *nodes, size_t nodes_len, const uint8_t *record, size_t record_len, const uint8_t *letter,
+uint32_t keeper_find(uint64_t size, const uint8_t *nodes, size_t nodes_len, const uint8_t *rec, size_t rec_len, const uint8_t *letter,
                      size_t letter_len, uint8_t *first, size_t first_len, uint8_t *second, size_t second_len,
                      uint32_t *found);
 

@@ -14,7 +14,7 @@ PARTS = {
     "root": ("nodes", "out"),
     "letter_write": ("record", "nodes", "out", "length"),
     "letter_check": ("root", "letter", "index", "record_at", "record_len"),
-    "find": ("nodes", "record", "letter", "log_input", "letter_input", "found"),
+    "find": ("nodes", "record", "letter", "first", "second", "found"),
     "store_leaf": ("record", "out", "length"),
     "store_inner": ("digest", "out", "length"),
     "read_node": ("bytes", "kind", "digest_out", "record_at", "record_len"),

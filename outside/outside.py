@@ -56,7 +56,7 @@ def say_leaf_count(numbers, leaves):
 def say_append(numbers, record, nodes, new_size, hashes):
     buffer = bytearray(nodes)
     answer = log.append(*numbers, record, buffer, digest)
-    return answer.number, [record, bytes(buffer), u64(answer.size), u64(answer.count)]
+    return answer.number, [record, bytes(buffer), u64(answer.size), u64(answer.hashes)]
 
 
 def say_root(numbers, nodes, out):
@@ -77,8 +77,8 @@ def say_letter_check(numbers, top, letter, index, record_at, record_len):
     return answer.number, [top, letter, u64(answer.index), u64(answer.start), u64(answer.length)]
 
 
-def say_find(numbers, nodes, record, letter, log_input, letter_input, found):
-    ours, theirs = bytearray(log_input), bytearray(letter_input)
+def say_find(numbers, nodes, record, letter, first, second, found):
+    ours, theirs = bytearray(first), bytearray(second)
     answer = finder.find(*numbers, record, nodes, letter, ours, theirs, digest)
     kind = {None: 0, "same": 1, "records": 2, "pair": 3}[answer.outcome]
     return answer.number, [nodes, record, letter, bytes(ours), bytes(theirs), u32(kind)]

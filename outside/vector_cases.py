@@ -29,9 +29,9 @@ def each(kind):
 
 # What the fields hold, where it is not bytes.
 KINDS = {
-    **dict.fromkeys(("number", "size", "new_size", "hash_count", "leaves", "index", "position", "record_at", "room", "log_input_room",
-                     "letter_input_room"), int),
-    **dict.fromkeys(("sizes", "hash_counts"), each(int)),
+    **dict.fromkeys(("number", "size", "new_size", "hashes", "leaves", "index", "position", "record_at", "room", "first_room",
+                     "second_room"), int),
+    **dict.fromkeys(("sizes", "hashes_each"), each(int)),
     **dict.fromkeys(("records", "roots"), each(octets)),
     **dict.fromkeys(("kind", "found"), str),
     "items": each(each(int)),
@@ -85,7 +85,7 @@ def number_asked(call, name, result):
 
 def append_asked(given, answer):
     case = append_case(given["size"], given["record"], given["nodes"])
-    return asked_once(case, answer, lambda: [answer["nodes"], u64(answer["new_size"]), u64(answer["hash_count"])])
+    return asked_once(case, answer, lambda: [answer["nodes"], u64(answer["new_size"]), u64(answer["hashes"])])
 
 
 def root_asked(given, answer):
@@ -96,9 +96,9 @@ def log_asked(given, answer):
     """An append and a root for each record, in one buffer whose bytes beyond the size stay as they were."""
     size, nodes, asked = 0, answer["nodes"], []
     beyond = b"\x3c" * len(nodes)
-    for record, new_size, count, top in zip(given["records"], answer["sizes"], answer["hash_counts"], answer["roots"], strict=True):
+    for record, new_size, count, top in zip(given["records"], answer["sizes"], answer["hashes_each"], answer["roots"], strict=True):
         before, after = (nodes[:NODE * of] + beyond[NODE * of:] for of in (size, new_size))
-        one = {"number": answer["number"], "nodes": after, "new_size": new_size, "hash_count": count, "root": top}
+        one = {"number": answer["number"], "nodes": after, "new_size": new_size, "hashes": count, "root": top}
         asked += append_asked({"size": size, "record": record, "nodes": before}, one) + root_asked({"size": new_size, "nodes": after}, one)
         size = new_size
     return asked
@@ -115,7 +115,7 @@ def check_asked(given, answer):
 
 
 def find_asked(given, answer):
-    rooms = given["log_input_room"], given["letter_input_room"]
+    rooms = given["first_room"], given["second_room"]
     case = find_case(given["size"], given["nodes"], given["record"], given["letter"], rooms)
     return asked_once(case, answer, lambda: [u32({"same": 1, "records": 2, "pair": 3}[answer["found"]])])
 

@@ -43,7 +43,7 @@ def marked_examples():
     yield "M10", leaf_count(2), (1, 0)
     yield "M11", leaf_position(2), (0, 3)
     yield "M12", leaf_position(7), (0, 11)
-    yield "M13", append(11, b"", bytearray(NODE * 15)).count, 4
+    yield "M13", append(11, b"", bytearray(NODE * 15)).hashes, 4
     yield "M14", items_of(5, 2), [(4,), (2,), (7,)]
     yield "M15", items_of(7, 4), [(6,), (8,), (10,)]
     yield "M16", items_of(7, 0), [(1,), (5,), (9, 10)]
@@ -92,7 +92,7 @@ def check_letters(most):
             record = run_record(index, index)
             letter = letter_of(size, index, record, buffer)
             good += (
-                check_letter(size, root(size, buffer).digest, letter) == (0, index, LETTER_HEAD, index)
+                check_letter(size, root(size, buffer).root, letter) == (0, index, LETTER_HEAD, index)
                 and record_in(letter) == record
                 and find(size, record, buffer, letter, bytearray(PAIR), bytearray(PAIR)) == (0, "same")
             )
@@ -151,7 +151,7 @@ def check_finder(most):
         for index in range(leaves):
             record = run_record(index, 5)
             letter = letter_of(size, index, record, buffer, toy_digest)
-            for kind, shown in [("same", letter), *other_letters(size, root(size, buffer, toy_digest).digest, letter)]:
+            for kind, shown in [("same", letter), *other_letters(size, root(size, buffer, toy_digest).root, letter)]:
                 counts[kind] += 1
                 wrong += not found_rightly(kind, size, record, buffer, shown)
     print(f"finder: {', '.join(f'{count} {kind}' for kind, count in counts.items())}; {wrong} are not what they should be")

@@ -71,8 +71,8 @@ def sentences():
     """Numbers that stand in sentences."""
     answers = small_log()[1]
     longest = letter_bytes(0, 0, bytes(LONGEST_RECORD), [bytes(NODE)] * 32)
-    yield f"sizes {with_comma(answer.size for answer in answers)}, hash counts {with_comma(answer.count for answer in answers)}."
-    yield f"M13: at n = 7 the hash count is {append(nodes_of(7), b'', bytearray(NODE * nodes_of(8))).count}:"
+    yield f"sizes {with_comma(answer.size for answer in answers)}, hash counts {with_comma(answer.hashes for answer in answers)}."
+    yield f"M13: at n = 7 the hash count is {append(nodes_of(7), b'', bytearray(NODE * nodes_of(8))).hashes}:"
     yield f"| letter | {len(WHOLE_LETTER)} bytes | {len(longest):,} bytes (20 + {LONGEST_RECORD:,} + 32 × {NODE}) |"
     yield f"It reads at most {PANEL_MOST:,} bytes, which is {PANEL_HEAD} and one more than the longest letter"
     if PANEL_MOST == PANEL_HEAD + len(longest) + 1 and len(items_of(MOST_LEAVES, 5)) == len(items_of(MOST_LEAVES - 1, 0)) == 32:
@@ -81,8 +81,8 @@ def sentences():
 
 def forgeries(nodes):
     """The two forged letters of section 9.7: the letter, the trusted size, the size that it names, the root of that log."""
-    yield letter_bytes(3, 1, RECORDS[2], [node(nodes, 2)]), 4, 3, root(4, nodes).digest
-    yield letter_bytes(1, 0, nodes[:2 * NODE], []), 3, 1, root(3, nodes).digest
+    yield letter_bytes(3, 1, RECORDS[2], [node(nodes, 2)]), 4, 3, root(4, nodes).root
+    yield letter_bytes(1, 0, nodes[:2 * NODE], []), 3, 1, root(3, nodes).root
 
 
 def example_bytes():
@@ -90,16 +90,16 @@ def example_bytes():
     nodes, _ = small_log()
     yield from (digest(data) for data in (b"", b"abc", counting_bytes(1024), counting_bytes(1025)))
     yield from (node(nodes, position) for position in range(4))
-    yield from (stored_leaf(RECORDS[0]), stored_inner(node(nodes, 2)), root(4, nodes).digest, WHOLE_LETTER)
+    yield from (stored_leaf(RECORDS[0]), stored_inner(node(nodes, 2)), root(4, nodes).root, WHOLE_LETTER)
     yield letter_of(4, 1, RECORDS[1], nodes)
-    yield (4).to_bytes(8, "big") + root(4, nodes).digest
+    yield (4).to_bytes(8, "big") + root(4, nodes).root
     yield from (letter for letter, _, _, _ in forgeries(nodes))
 
 
 def as_said():
     """Whether the examples get the numbers that the page gives them."""
     nodes, _ = small_log()
-    top, letter = root(4, nodes).digest, letter_of(4, 1, RECORDS[1], nodes)
+    top, letter = root(4, nodes).root, letter_of(4, 1, RECORDS[1], nodes)
     whole = (4).to_bytes(8, "big") + top + letter
     changed = [letter[:place] + bytes([letter[place] ^ 1]) + letter[place + 1:] for place in range(20, len(letter))]
     numbers = [check_letter(4, top, shown).number for shown in (letter[:-1], letter + b"\0", *changed)]

@@ -40,7 +40,7 @@ def said_of_all(records):
     nodes, size = bytearray(NODE * nodes_of(len(records))), 0
     for record in records:
         size = log.append(size, record, nodes).size
-    return size, log.root(size, nodes).digest if records else b"", bytes(nodes)
+    return size, log.root(size, nodes).root if records else b"", bytes(nodes)
 
 
 def said_of(records):

@@ -235,10 +235,10 @@ uint32_t keeper_letter_check(uint64_t size, const uint8_t *root, size_t root_len
 
 /* "pair" and "records" want two strings of one digest, which no test has: a letter that is accepted is the log's own here. */
 uint32_t keeper_find(uint64_t size, const uint8_t *nodes, size_t nodes_len, const uint8_t *record, size_t record_len, const uint8_t *letter, size_t letter_len,
-                     uint8_t *log_input, size_t log_input_len, uint8_t *letter_input, size_t letter_input_len, uint32_t *found) {
+                     uint8_t *first, size_t first_len, uint8_t *second, size_t second_len, uint32_t *found) {
     uint8_t top[NODE], own[NODE];
     uint32_t number = keeper_root(size, nodes, nodes_len, top, NODE);
-    (void)log_input, (void)letter_input;
+    (void)first, (void)second;
     if (number == KEEPER_DONE) number = check_fields(size, top, letter, letter_len);
     if (number != KEEPER_DONE) return number;
     uint64_t index = number_at(letter + 8, 8), leaves = 0, first;
@@ -253,7 +253,7 @@ uint32_t keeper_find(uint64_t size, const uint8_t *nodes, size_t nodes_len, cons
         digest_pair(parent - NODE * ((uint64_t)1 << k), parent - NODE, own);
         if (memcmp(own, parent, NODE) != 0) return KEEPER_DAMAGED_NODES;
     }
-    if (log_input_len < BLOCK || letter_input_len < BLOCK) return KEEPER_OUTPUT_TOO_SHORT;
+    if (first_len < BLOCK || second_len < BLOCK) return KEEPER_OUTPUT_TOO_SHORT;
     *found = KEEPER_SAME;
     return KEEPER_DONE;
 }

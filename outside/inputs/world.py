@@ -33,7 +33,7 @@ class World:
 
     def root(self, leaves):
         """Its root; zeros for no record."""
-        return log.root(nodes_of(leaves), self.nodes(leaves), digest).digest
+        return log.root(nodes_of(leaves), self.nodes(leaves), digest).root
 
     @functools.lru_cache(maxsize=None)
     def letter(self, leaves, index):

@@ -34,7 +34,7 @@ def log_of(count):
 def letter_in(leaves, index):
     """A log of so many records, and one of its letters: the size, the root, the letter."""
     size, nodes = log_of(leaves)
-    return size, root(size, nodes).digest, letter_of(size, index, record_of(index), nodes)
+    return size, root(size, nodes).root, letter_of(size, index, record_of(index), nodes)
 
 
 def flips_of(data):

@@ -26,7 +26,7 @@ def lines_of_letters(most):
     buffer, size = bytearray(NODE * nodes_of(most)), 0
     for leaves in range(1, most + 1):
         size = append(size, record_of(leaves - 1), buffer).size
-        top = root(size, buffer).digest
+        top = root(size, buffer).root
         for index in range(leaves):
             record = record_of(index)
             letter = letter_of(size, index, record, buffer)
@@ -78,7 +78,7 @@ def lines_of_shortcuts():
         ("last of three as second of two", *log_of(3), 3, 1, record_of(2), [2]),
         ("two leaf digests as one record", *log_of(2), 1, 0, log_of(2)[1][:2 * NODE], []),
     ):
-        top = root(size, nodes).digest
+        top = root(size, nodes).root
         letter = letter_bytes(named, index, record, [node(nodes, position) for position in items])
         restated = letter_bytes(size, index, record, [node(nodes, position) for position in items])
         for trusted, shown in ((size, letter), (size, restated), (named, letter)):

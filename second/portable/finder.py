@@ -15,7 +15,7 @@ LEAVES, INDEX = 7, 3
 def find_case(name, size, nodes, record, letter, rooms=(PAIR, PAIR)):
     """A letter compared with a log. rooms: the lengths of the two buffers."""
     answer = find(size, record, nodes, letter, bytearray(rooms[0]), bytearray(rooms[1]))
-    given = {"size": size, "nodes": nodes, "record": record, "letter": letter, "log_input_room": rooms[0], "letter_input_room": rooms[1]}
+    given = {"size": size, "nodes": nodes, "record": record, "letter": letter, "first_room": rooms[0], "second_room": rooms[1]}
     return case("find", name, given, answer.number, found=answer.outcome)
 
 

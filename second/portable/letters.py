@@ -44,7 +44,7 @@ def true_letters():
     """Letters of small logs: the name, size, index, record, nodes, root and the letter."""
     for leaves, index in (*((leaves, index) for leaves in range(1, MOST + 1) for index in range(leaves)), *LARGER):
         (size, nodes), record = small_log(leaves), logged(index)
-        yield f"record {index} of {leaves}", size, index, record, nodes, root(size, nodes).digest, letter_of(size, index, record, nodes)
+        yield f"record {index} of {leaves}", size, index, record, nodes, root(size, nodes).root, letter_of(size, index, record, nodes)
 
 
 def writing_cases():
@@ -96,7 +96,7 @@ def damages(letter):
 def damaged_cases():
     """One letter with each damage; and true, beside another size or root."""
     size, nodes = small_log(LEAVES)
-    top, letter = root(size, nodes).digest, letter_of(size, INDEX, logged(INDEX), nodes)
+    top, letter = root(size, nodes).root, letter_of(size, INDEX, logged(INDEX), nodes)
     for name, shown in damages(letter):
         yield check_case(f"record {INDEX} of {LEAVES}, {name}", size, top, shown)
     for trusted in (0, 2, 5, 6, 9, 10, nodes_of(MOST_LEAVES), nodes_of(MOST_LEAVES) + 1):
@@ -132,7 +132,7 @@ def forged_cases():
         ("two leaf digests as the record of one", 2, 1, 0, small_log(2)[1][:2 * NODE], ()),
     ):
         size, nodes = small_log(leaves)
-        top, items = root(size, nodes).digest, [node(nodes, place) for place in places]
+        top, items = root(size, nodes).root, [node(nodes, place) for place in places]
         forged, other = letter_bytes(named, index, record, items), letter_bytes(size, index, record, items)
         yield check_case(f"{name}, against the true size", size, top, forged)
         yield check_case(f"{name}, naming the true size", size, top, other)

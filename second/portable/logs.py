@@ -25,9 +25,9 @@ def whole_case(name, records):
     for record in records:
         answer = append(sizes[-1], record, nodes)
         sizes.append(answer.size)
-        counts.append(answer.count)
-        roots.append(root(answer.size, nodes).digest)
-    return case("log", name, {"records": list(records)}, 0, sizes=sizes[1:], hash_counts=counts, roots=roots, nodes=nodes)
+        counts.append(answer.hashes)
+        roots.append(root(answer.size, nodes).root)
+    return case("log", name, {"records": list(records)}, 0, sizes=sizes[1:], hashes_each=counts, roots=roots, nodes=nodes)
 
 
 def append_case(name, size, record, nodes):
@@ -35,7 +35,7 @@ def append_case(name, size, record, nodes):
     after = bytearray(nodes)
     answer = append(size, record, after)
     return case("append", name, {"size": size, "record": record, "nodes": nodes}, answer.number,
-                new_size=answer.size, hash_count=answer.count, nodes=after)
+                new_size=answer.size, hashes=answer.hashes, nodes=after)
 
 
 def root_case(name, size, nodes):

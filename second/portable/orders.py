@@ -58,8 +58,8 @@ def calls():
     yield "root", root_case, {"size": size, "nodes": nodes}, {"1": no_size, "10": {"size": 0}, "4": short}
     yield "letter_write", write_case, {"size": size, "index": INDEX, "record": record, "nodes": nodes, "room": len(letter)}, {
         "1": no_size, "5": {"index": LEAVES}, "3": {"record": longer}, "4": short, "13": {"record": b"other"}, "6": {"room": len(letter) - 1}}
-    yield "letter_check", with_letter(check_case, parts), {"size": size, "top": root(size, nodes).digest, **parts}, {
-        "1": no_size, "12": {"top": root(size, nodes).digest[:-1]}, **from_7}
+    yield "letter_check", with_letter(check_case, parts), {"size": size, "top": root(size, nodes).root, **parts}, {
+        "1": no_size, "12": {"top": root(size, nodes).root[:-1]}, **from_7}
     yield "find", with_letter(find_case, parts), {"size": size, "nodes": nodes, "record": record, "rooms": (PAIR, PAIR), **parts}, {
         "1": no_size, "10": {"size": 0}, "4": short, **from_7, "3 (record)": {"record": longer}, "13": {"record": b"other"},
         "14": {"nodes": flipped(nodes, NODE)}, "6 (first buffer)": {"rooms": (PAIR - 1, PAIR)}, "6 (second buffer)": {"rooms": (PAIR, PAIR - 1)}}

@@ -18,7 +18,7 @@ def panel_case(name, data):
 def panel_cases():
     """An input cut anywhere, each number once, the longest input that is read, and longer ones."""
     size, nodes = small_log(LEAVES)
-    top, letter = root(size, nodes).digest, letter_of(size, INDEX, logged(INDEX), nodes)
+    top, letter = root(size, nodes).root, letter_of(size, INDEX, logged(INDEX), nodes)
     good, longest = panel_input(size, top, letter), panel_input(*longest_letter())
     yield panel_case("an accepted letter", good)
     for length in (0, 1, 39, 40, 59, 60, len(good) - 1):

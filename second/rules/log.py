@@ -6,8 +6,8 @@ from rules.shape import MOST_LEAVES, leaf_count, nodes_of, peaks_of
 
 LONGEST_RECORD = 16384
 NODE = 32
-Appended = namedtuple("Appended", "number size count")
-Rooted = namedtuple("Rooted", "number digest")
+Appended = namedtuple("Appended", "number size hashes")
+Rooted = namedtuple("Rooted", "number root")
 
 
 def node(buffer, position):

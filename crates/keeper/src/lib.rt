@@ -165,7 +165,7 @@ pub extern "C" fn keeper_read_node(
         return 0;
     };
     *kind = 1;
-    *record_at = 37;
+    *record_at = stored::RECORD_AT;
     *record_len = length;
     0
 }

@@ -27,6 +27,9 @@ pub struct Reading {
     pub digest: [u8; 32],
 }
 
+// Where the record of a leaf begins.
+pub const RECORD_AT: usize = 37;
+
 // Writes a leaf, its digest worked out from the record. Refuses by 3, 6.
 pub fn write_leaf(rec: &[u8], out: &mut [u8]) -> Written
     ensures { λ r. ⌜ wrote r (now (out .exit)) ≡ leafOutcome digestOf (now (rec .entry)) (now (out .entry)) ⌝ }
@@ -50,7 +53,7 @@ pub fn write_leaf(rec: &[u8], out: &mut [u8]) -> Written
     wire::write_byte(out, 0, 1);
     wire::write_digest(out, 1, bytes);
     wire::write4(out, 33, n as u32);
-    wire::write_run(out, 37, rec);
+    wire::write_run(out, RECORD_AT, rec);
     Written { number: 0, length }
 }
 
@@ -79,15 +82,15 @@ pub fn read_node(bytes: &[u8]) -> Reading
 {
     let length = bytes.len();
     if length < 33 {
-        return refusal(Node::NotANode);
+        return read_refused(Node::NotANode);
     }
     let flag = bytes[0];
     if 1 < flag {
-        return refusal(Node::NotANode);
+        return read_refused(Node::NotANode);
     }
     if flag == 0 {
         if length != 33 {
-            return refusal(Node::NotANode);
+            return read_refused(Node::NotANode);
         }
         return Reading {
             node: Node::Inner,
@@ -95,14 +98,14 @@ pub fn read_node(bytes: &[u8]) -> Reading
         };
     }
     if length < 37 {
-        return refusal(Node::NotANode);
+        return read_refused(Node::NotANode);
     }
     let stated = wire::read4(bytes, 33) as usize;
     if wire::LONGEST_RECORD < stated {
-        return refusal(Node::RecordTooLong);
+        return read_refused(Node::RecordTooLong);
     }
     if length != 37 + stated {
-        return refusal(Node::NotANode);
+        return read_refused(Node::NotANode);
     }
     Reading {
         node: Node::Leaf(stated),
@@ -111,7 +114,7 @@ pub fn read_node(bytes: &[u8]) -> Reading
 }
 
 // The answer for a refusal: no kind, and the digest all zero.
-fn refusal(node: Node) -> Reading
+fn read_refused(node: Node) -> Reading
     ensures { λ r. ⌜ readOff r ≡ valuesOf node (zeros 32) ⌝ }
 {
     Reading {
@@ -142,5 +145,5 @@ pub fn record_of<'a>(bytes: &'a [u8]) -> &'a [u8]
     let Node::Leaf(n) = node else {
         return &bytes[..0];
     };
-    &bytes[37..37 + n]
+    &bytes[RECORD_AT..RECORD_AT + n]
 }

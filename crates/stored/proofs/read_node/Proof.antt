@@ -11,14 +11,14 @@ use Rattle.stored.proofs.read_node.Tie as tie
 
 returns : tie.Need-returns
 unfolding readOutcome readOrder
-returns c = refuses 11 _ _ _ (c .refusal .ensures) (λ h. absurd (omega arith))
+returns c = refuses 11 _ _ _ (c .read-refused .ensures) (λ h. absurd (omega arith))
 
 returns-2 : tie.Need-returns-2
 unfolding readOutcome readOrder
-returns-2 c = refuses 11 _ _ _ (c .refusal2 .ensures) (λ h h′. absurd (omega arith))
+returns-2 c = refuses 11 _ _ _ (c .read-refused2 .ensures) (λ h h′. absurd (omega arith))
 
 returns-3 : tie.Need-returns-3
-returns-3 c = refuses 11 _ _ _ (c .refusal3 .ensures) (search needs) ∙ sym (read-inner _ (c .before .before .if3 .taken))
+returns-3 c = refuses 11 _ _ _ (c .read-refused3 .ensures) (search needs) ∙ sym (read-inner _ (c .before .before .if3 .taken))
 
 returns-4 : tie.Need-returns-4
 unfolding digestIn
@@ -26,15 +26,15 @@ returns-4 c =
     passes _ _ _ (ap innerRead (c .read-digest .ensures)) (search needs) ∙ sym (read-inner _ (c .before .before .if3 .taken))
 
 returns-5 : tie.Need-returns-5
-returns-5 c = refuses 11 _ _ _ (c .refusal4 .ensures) (search needs) ∙ sym (read-leaf _ (search needs))
+returns-5 c = refuses 11 _ _ _ (c .read-refused4 .ensures) (search needs) ∙ sym (read-leaf _ (search needs))
 
 returns-6 : tie.Need-returns-6
 unfolding statedIn
-returns-6 c = refuses 3 _ _ _ (c .refusal5 .ensures) (search needs) ∙ sym (read-leaf _ (search needs))
+returns-6 c = refuses 3 _ _ _ (c .read-refused5 .ensures) (search needs) ∙ sym (read-leaf _ (search needs))
 
 returns-7 : tie.Need-returns-7
 unfolding statedIn
-returns-7 c = refuses 11 _ _ _ (c .refusal6 .ensures) (search needs) ∙ sym (read-leaf _ (search needs))
+returns-7 c = refuses 11 _ _ _ (c .read-refused6 .ensures) (search needs) ∙ sym (read-leaf _ (search needs))
 
 returns-8 : tie.Need-returns-8
 unfolding statedIn digestIn
