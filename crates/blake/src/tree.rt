@@ -81,9 +81,6 @@ pub(crate) fn digest_in(key: [u32; 8], flag: u32, bytes: &[u8]) -> [u8; 32]
     requires { ⌜ flag ≤ 16 ⌝ }
     ensures { λ r. ⌜ r ≡ digested key flag (now (bytes .entry)) ⌝ }
 {
-    if bytes.len() <= 1024 {
-        return unload(chunk(key, flag, ROOT, 0, bytes));
-    }
     let h = height(bytes.len());
     unload(tree(h, key, flag, ROOT, 0, bytes))
 }

@@ -66,11 +66,11 @@ fn padded(block: &[u8]) -> [u32; 16]
     whole(&bytes)
 }
 
-// The first sixteen words of a block, padded with zeros where it is short.
+// The first sixteen words of a block, padded with zeros where it is short. That a block is longer is not met in a chunk, and costs nothing there.
 pub fn load(block: &[u8]) -> [u32; 16]
     ensures { λ r. ⌜ r ≡ wordsOf 16 (now (block .entry)) ⌝ }
 {
-    if 64 <= block.len() {
+    if 64 < block.len() {
         return whole(block);
     }
     padded(block)

@@ -12,8 +12,8 @@ const MOST_START: u64 = 17179869184;
 // The first position, 2^59, that no buffer reaches.
 const BEYOND: u64 = 576460752303423488;
 
-// The digest at position p: zeros past the end.
-pub fn node_at(nodes: &[u8], p: u64) -> Digest
+// The digest at position p, which the nodes do not reach wholly: zeros past the end.
+fn edge(nodes: &[u8], p: u64) -> Digest
     ensures { λ r. ⌜ r .bytes ≡ nodeIn (now (nodes .entry)) p ⌝ }
 {
     if BEYOND <= p {
@@ -21,6 +21,20 @@ pub fn node_at(nodes: &[u8], p: u64) -> Digest
     }
     let bytes = wire::read_digest(nodes, (32 * p) as usize);
     Digest { bytes }
+}
+
+// The digest at position p: zeros past the end.
+pub fn node_at(nodes: &[u8], p: u64) -> Digest
+    ensures { λ r. ⌜ r .bytes ≡ nodeIn (now (nodes .entry)) p ⌝ }
+{
+    if nodes.len() as u64 / 32 <= p {
+        return edge(nodes, p);
+    }
+    let at = (32 * p) as usize;
+    let end = at + 32;
+    let mut out = [0u8; 32];
+    bytes::copy(&nodes[at..end], &mut out);
+    Digest { bytes: out }
 }
 
 // The peaks of n leaves, 1 to 2^32, whose nodes begin at position s, at most 2^34, folded: zeros for other numbers.

@@ -1,26 +1,30 @@
--- The digest at position p is the 32 bytes from 32 p on, and no buffer reaches position 2^59.
-use mathlib.Core.Path.{sym}
+-- Where the nodes reach position p wholly its 32 bytes are copied; elsewhere the edge answers.
+use mathlib.Core.Path.{refl}
 use native.Mathlib.Omega.{arith}
 use Prim.Native.Nat.{_*_}
-use Rattle.wire.proofs.Parts.{part-beyond}
 use Rattle.nodes.specs.Nodes.{nodeIn}
+use Rattle.nodes.proofs.Joined.{copied}
 use borrow.Author.Needs.{needs}
 use Rattle.nodes.proofs.node_at.Statement.{statement}
 use Rattle.nodes.proofs.node_at.Tie as tie
 
-returns : tie.Need-returns
-unfolding nodeIn
-returns c = let a = c .before .before .args in sym (part-beyond (32 * a .p) 32 (a .nodes .now) (omega arith))
-
 returns-2 : tie.Need-returns-2
 unfolding nodeIn
-returns-2 c = c .read-digest .ensures
+returns-2 c =
+    let a = c .before .before .before .before .before .before .args in
+    copied (a .nodes .now) (32 * a .p) (omega arith) refl (c .before .copy .ensures .1)
 
 pub node-at-spec : {M : Type 1} → statement M
 node-at-spec =
     tie.close
     (tie.spec
-    returns
+    (λ c κs. search needs)
+    (λ c. search needs)
+    (λ c. search needs)
+    (λ c. search needs)
+    (λ c. search needs)
+    (λ c. search needs)
+    (λ c. search needs)
     (λ c. search needs)
     (λ c κs. search needs)
     returns-2)
