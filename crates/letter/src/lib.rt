@@ -51,14 +51,13 @@ pub fn take_apart(size: u64, n: u64, letter: &[u8]) -> Fields
     if wire::LONGEST_RECORD < stated {
         return fields_refused(3);
     }
-    let end = HEAD + stated;
-    if length != end + 32 * items {
+    if length != HEAD + stated + 32 * items {
         return fields_refused(7);
     }
     Fields {
         number: 0,
         index,
         start: HEAD,
-        end,
+        end: HEAD + stated,
     }
 }

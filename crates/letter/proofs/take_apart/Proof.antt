@@ -78,4 +78,5 @@ take-apart-spec =
     (λ c. search needs)
     (λ c κs. search needs)
     returns-6
+    (λ c. search needs)
     returns-7)
