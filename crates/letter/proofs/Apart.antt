@@ -28,50 +28,51 @@ module _ (size n : ℕ) (letter : List ℕ) {r : Fields} (e : takenApart r ≡ f
     pub passes : Passes (fieldsOrder size n letter)
     pub index : r .index ≡ indexIn letter
     pub start : r .start ≡ head
-    pub end : r .end ≡ head + statedIn letter
+    pub long : r .length ≡ statedIn letter
     pub inside : r .index < n
     pub short : statedIn letter ≤ 16384
     pub few : itemsFor n letter ≤ 32
-    pub exact : length letter ≡ r .end + 32 * itemsFor n letter
+    pub exact : length letter ≡ r .start + r .length + 32 * itemsFor n letter
 
   pub apart : r .number ≡ 0 → Apart
   unfolding fieldsOutcome fieldsOrder
   apart z =
       let a = accepted (λ (o : FieldsOutcome). o .number) fieldsRefused (fieldsOrder size n letter) _ (λ k. refl) refl e tt z in
       let i : r .index ≡ indexIn letter = ap (λ (o : FieldsOutcome). o .index) (a .1) in
-      let q : r .end ≡ head + statedIn letter = ap (λ (o : FieldsOutcome). o .end) (a .1) in
+      let s : r .start ≡ head = ap (λ (o : FieldsOutcome). o .start) (a .1) in
+      let l : r .length ≡ statedIn letter = ap (λ (o : FieldsOutcome). o .length) (a .1) in
       let p = a .0 in
       record {
         passes = p;
         index = i;
-        start = ap (λ (o : FieldsOutcome). o .start) (a .1);
-        end = q;
+        start = s;
+        long = l;
         inside = omega (arith, i, p .1 .1 .0);
         few = omega (arith, p .1 .1 .1 .0);
         short = omega (arith, p .1 .1 .1 .1 .0);
-        exact = omega (arith, q, p .1 .1 .1 .1 .1 .0);
+        exact = omega (arith, s, l, p .1 .1 .1 .1 .1 .0);
       }
 
   -- the record and the items, as slices of the letter
   abbrev pub recordSlice : List ℕ
-  recordSlice = take (r .end - r .start) (drop (r .start) letter)
+  recordSlice = take (r .start + r .length - r .start) (drop (r .start) letter)
 
   abbrev pub itemsSlice : List ℕ
-  itemsSlice = take (length letter - r .end) (drop (r .end) letter)
+  itemsSlice = take (length letter - (r .start + r .length)) (drop (r .start + r .length) letter)
 
   module _ (a : Apart) where
     pub record-slice : recordSlice ≡ recordIn letter
     unfolding recordIn
     record-slice =
-        ap₂ (λ (s t : ℕ). take (t - s) (drop s letter)) (a .start) (a .end)
-        ∙ slice-part head (statedIn letter) letter (omega (arith, a .end, a .exact))
+        ap₂ (λ (s l : ℕ). take (s + l - s) (drop s letter)) (a .start) (a .long)
+        ∙ slice-part head (statedIn letter) letter (omega (arith, a .start, a .long, a .exact))
 
     items-slice : (k : ℕ) → rowsFrom 32 0 k itemsSlice ≡ itemsIn k letter
     unfolding itemsIn
     items-slice k =
-        ap (rowsFrom 32 0 k) (take-all (length letter - r .end) (drop (r .end) letter) (rw length-drop (omega arith)))
-        ∙ digests-drop 0 k (r .end) letter
-        ∙ ap (λ (at : ℕ). rowsFrom 32 at k letter) (add-zero (r .end) ∙ a .end)
+        ap (rowsFrom 32 0 k) (take-all (length letter - (r .start + r .length)) (drop (r .start + r .length) letter) (rw length-drop (omega arith)))
+        ∙ digests-drop 0 k (r .start + r .length) letter
+        ∙ ap (λ (at : ℕ). rowsFrom 32 at k letter) (add-zero (r .start + r .length) ∙ ap₂ (λ (s l : ℕ). s + l) (a .start) (a .long))
 
     -- the tree that the slices make is that of the letter, and so is the root worked out from them
     module _ (digest : List ℕ → List ℕ) where

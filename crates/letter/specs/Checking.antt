@@ -33,22 +33,22 @@ fieldsOrder size n letter =
 unfoldable pub from7 : (List ℕ → List ℕ) → ℕ → ℕ → List ℕ → List ℕ → List Refusal
 from7 digest size n root letter = fieldsOrder size n letter ++ (9 if differ root (workedRoot digest n letter) is-not 0 ∷ [])
 
--- what taking a letter apart returns: the number, the index, and where the record begins and ends
+-- what taking a letter apart returns: the number, the index, and where the record begins and how long it is
 pub record FieldsOutcome : Type 0 where
   pub number : ℕ
   pub index : ℕ
   pub start : ℕ
-  pub end : ℕ
+  pub length : ℕ
 
 -- the outcome by the answer
 abbrev pub takenApart : Fields → FieldsOutcome
-takenApart r = record { number = r .number; index = r .index; start = r .start; end = r .end }
+takenApart r = record { number = r .number; index = r .index; start = r .start; length = r .length }
 
 -- a refusal has its number alone
 abbrev pub fieldsRefused : ℕ → FieldsOutcome
-fieldsRefused number = record { number = number; index = 0; start = 0; end = 0 }
+fieldsRefused number = record { number = number; index = 0; start = 0; length = 0 }
 
 unfoldable pub fieldsOutcome : ℕ → ℕ → List ℕ → FieldsOutcome
 fieldsOutcome size n letter =
     verdict fieldsRefused (fieldsOrder size n letter)
-    (record { number = 0; index = indexIn letter; start = head; end = head + statedIn letter })
+    (record { number = 0; index = indexIn letter; start = head; length = statedIn letter })

@@ -8,12 +8,12 @@ pub mod leaf;
 // What stands before the record: size, index and record length.
 pub const HEAD: usize = 20;
 
-// What taking a letter apart answers: the number, the index, and where the record begins and ends. The items follow it. A refusal has 0 for these.
+// What taking a letter apart answers: the number, the index, and where the record begins and how long it is. The items follow it. A refusal has 0 for these.
 pub struct Fields {
     pub number: u32,
     pub index: u64,
     pub start: usize,
-    pub end: usize,
+    pub length: usize,
 }
 
 // A refusal.
@@ -24,7 +24,7 @@ fn fields_refused(number: u32) -> Fields
         number,
         index: 0,
         start: 0,
-        end: 0,
+        length: 0,
     }
 }
 
@@ -58,6 +58,6 @@ pub fn take_apart(size: u64, n: u64, letter: &[u8]) -> Fields
         number: 0,
         index,
         start: HEAD,
-        end: HEAD + stated,
+        length: stated,
     }
 }

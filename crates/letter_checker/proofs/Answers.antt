@@ -42,10 +42,9 @@ module _ (digest : List ℕ → List ℕ) (size : ℕ) (root letter : List ℕ) 
         (refuses 9 checkRefused _ (checkDone letter) f (λ y. absurd (z (differ-worked ∙ y)))))
 
     pub all-pass : differ root made ≡ 0
-        → record { number = 0; index = r .index; start = r .start; length = r .end - r .start } ≡ checkOutcome digest size root letter
+        → record { number = 0; index = r .index; start = r .start; length = r .length } ≡ checkOutcome digest size root letter
     unfolding from7
     all-pass z =
-        let l : r .end - r .start ≡ statedIn letter = omega (arith, a .start, a .end) in
         from-7 (late checkRefused (fieldsOrder size (leaves size) letter) _ (checkDone letter) (a .passes)
-        (passes checkRefused _ (checkDone letter) (λ i. record { number = 0; index = a .index i; start = a .start i; length = l i })
+        (passes checkRefused _ (checkDone letter) (λ i. record { number = 0; index = a .index i; start = a .start i; length = a .long i })
         (sym differ-worked ∙ z, tt)))

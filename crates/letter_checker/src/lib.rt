@@ -41,7 +41,7 @@ pub fn check(size: u64, root: &[u8], letter: &[u8]) -> Checked
         return check_refused(f.number);
     }
     let start = f.start;
-    let end = f.end;
+    let end = start + f.length;
     let made = letter_root::root_of(n, f.index, &letter[start..end], &letter[end..]);
     let bytes = made.bytes;
     if wire::differ(root, &bytes) != 0 {
@@ -51,7 +51,7 @@ pub fn check(size: u64, root: &[u8], letter: &[u8]) -> Checked
         number: 0,
         index: f.index,
         start,
-        length: end - start,
+        length: f.length,
     }
 }
 

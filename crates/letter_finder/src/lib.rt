@@ -41,7 +41,7 @@ pub fn find(
         return difference::find_refused(f.number);
     }
     let start = f.start;
-    let end = f.end;
+    let end = start + f.length;
     against::against(
         nodes,
         n,

@@ -6,10 +6,10 @@ use native.Mathlib.Nat.{add-zero}
 use native.Mathlib.Omega.{arith}
 use lib.ListN.{length, take, drop}
 use Rattle.digest.specs.Digest.{digestOf, digest-length}
-use Rattle.wire.specs.Slices.{splice, joined}
-use Rattle.wire.proofs.Splices.{splice-length, splice-lent}
+use Rattle.wire.specs.Slices.{splice, written, joined}
+use Rattle.wire.proofs.Splices.{splice-length, splice-lent, written-fits}
 use Rattle.shape.specs.Sizes.{sizeOf, trailingOnes, hashCount, heightOf, leaves}
-use Rattle.shape.specs.Nodes.{newNodes}
+use Rattle.shape.specs.Nodes.{climb, newNodes}
 use Rattle.shape.specs.Positions.{peaksIn, peaks, fold}
 use Rattle.shape.proofs.Heights.{height-holds}
 use Rattle.shape.proofs.Appends.{new-length}
@@ -18,13 +18,26 @@ use Rattle.log.specs.Steps.{Lefts, leftIn, ups}
 use Rattle.log.specs.Outcome.{appended, appendDone, rooted, rootDone}
 use Rattle.log.specs.declared.Appended.{Appended}
 use Rattle.log.specs.declared.Rooted.{Rooted}
-use Rattle.wire.proofs.Joined.{joined-length}
+use Rattle.wire.proofs.Joined.{joined-length, joined-one}
 use Rattle.log.proofs.Climbs.{new-ups, new-sized}
 use Rattle.log.proofs.Writing.{ups-bytes}
 use Rattle.nodes.proofs.From.{from-any}
 use Rattle.shape.proofs.Counting.{Counts, grown-size}
 
 module _ {size n m : ℕ} (rec bs : List ℕ) (k : Counts size n) (e : m ≡ trailingOnes n) (room : 32 * (size + (1 + m)) ≤ length bs) where
+  -- where nothing merges, the leaf alone
+  pub leaf-bytes : m ≡ 0 → {leaf last : List ℕ} → last ≡ written (32 * size) leaf bs → leaf ≡ digestOf rec
+      → last ≡ splice (32 * size) (joined (newNodes digestOf (nodeIn bs) (leaves size) (digestOf rec))) bs
+  unfolding newNodes climb
+  leaf-bytes z w d =
+      let t : trailingOnes (leaves size) ≡ 0 = ap trailingOnes (k .value) ∙ sym e ∙ z in
+      w
+      ∙ ap (λ (x : List ℕ). written (32 * size) x bs) d
+      ∙ written-fits (32 * size) (digestOf rec) bs (omega (arith, digest-length rec))
+      ∙ ap (λ (x : List ℕ). splice (32 * size) x bs)
+      (sym (joined-one (digestOf rec))
+      ∙ ap (λ (j : ℕ). joined (climb digestOf (nodeIn bs) j 0 (sizeOf (leaves size)) (digestOf rec))) (sym t))
+
   -- the part from byte 32 × size on, as it was lent and came back
   pub new-bytes : {saved tail last : List ℕ} → Lefts bs size m saved
       → tail ≡ splice 0 (joined (ups (leftIn saved) m (digestOf rec))) (take (length bs - 32 * size) (drop (32 * size) bs))

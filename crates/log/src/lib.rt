@@ -53,8 +53,17 @@ pub fn append(size: u64, rec: &[u8], nodes: &mut [u8]) -> Appended
     if (nodes.len() as u64) < 32 * grown {
         return append_refused(4, size);
     }
-    let lefts = new::lefts(nodes, size, m);
     let at = (32 * size) as usize;
+    if m == 0 {
+        let leaf = digest::digest_of(rec).bytes;
+        wire::write_digest(nodes, at, leaf);
+        return Appended {
+            number: 0,
+            size: grown,
+            hashes: 1,
+        };
+    }
+    let lefts = new::lefts(nodes, size, m);
     new::write_new(&mut nodes[at..], rec, lefts, m);
     Appended {
         number: 0,

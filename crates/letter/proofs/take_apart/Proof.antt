@@ -1,6 +1,5 @@
 -- `letter::take_apart` meets its contract: each refusal is the first of its order that applies, and where none does the fields are those read.
 use mathlib.Core.Path.{_≡_, ap, _∙_}
-use Prim.Native.Nat.{_+_}
 use Rattle.order.proofs.Laws.{refuses, passes}
 use Rattle.letter.specs.Bytes.{head, sizeIn, indexIn, statedIn}
 use Rattle.letter.specs.Items.{itemCount}
@@ -49,7 +48,7 @@ returns-7 c =
       number = 0;
       index = c .before .before .before .before .before .before .read82 .result;
       start = head;
-      end = head + c .before .before .read4 .result;
+      length = c .before .before .read4 .result;
     } in
     passes _ _ _ {r = f} (cc) (search needs)
 
@@ -78,5 +77,4 @@ take-apart-spec =
     (λ c. search needs)
     (λ c κs. search needs)
     returns-6
-    (λ c. search needs)
     returns-7)

@@ -56,29 +56,32 @@ returns-3 c = refused (c .before .before .before) (c .before .if2 .taken) (c .ch
 taken : (c : tie.Else2) → Apart (size (c .before .before)) (leaves (size (c .before .before))) (bytes (c .before .before)) (fielded (c .before .before))
 taken c = apart _ _ _ (fielded (c .before .before)) (c .if2 .left)
 
+add-end : tie.Need-add-end
+add-end c = let t = taken (c .before) in omega (arith, t .start, t .long, t .short)
+
 sub-root-of : tie.Need-sub-root-of
-sub-root-of c = let t = taken c in omega (arith, t .start, t .end)
+sub-root-of c = let t = taken (c .before) in omega arith
 
 part-root-of-start : tie.Need-part-root-of-start
-part-root-of-start c = let t = taken c in omega (arith, t .start, t .end)
+part-root-of-start c = let t = taken (c .before) in omega arith
 
 part-root-of-end : tie.Need-part-root-of-end
-part-root-of-end c = let t = taken c in omega (arith, t .exact)
+part-root-of-end c = let t = taken (c .before) in omega (arith, t .exact)
 
 sub-root-of-2 : tie.Need-sub-root-of-2
-sub-root-of-2 c = let t = taken (c .before) in omega (arith, t .exact)
+sub-root-of-2 c = let t = taken (c .before .before) in omega (arith, t .exact)
 
 part-root-of-start-2 : tie.Need-part-root-of-start-2
-part-root-of-start-2 c = let t = taken (c .before) in omega (arith, t .exact)
+part-root-of-start-2 c = let t = taken (c .before .before) in omega (arith, t .exact)
 
 -- the root that is worked out is the letter's
 module _ (c : tie.After-root-of) where
   abbrev apart-place : tie.After-take-apart
-  apart-place = c .before .before .before .before .before
+  apart-place = c .before .before .before .before .before .before
 
   worked : c .root-of .result .bytes ≡ workedRoot digestOf (leaves (size apart-place)) (bytes apart-place)
   worked =
-      let t = c .before .before .before in
+      let t = c .before .before .before .before in
       worked-slices (size apart-place) (leaves (size apart-place)) (bytes apart-place) (fielded apart-place) (taken t) digestOf
       (rw (known (apart-place .before .before) .value) (c .root-of .ensures))
 
@@ -87,17 +90,14 @@ returns-4 c =
     let r = c .before .before .before .before .before in
     let p = apart-place r in
     root-refuses digestOf (size p) (trusted p) (bytes p) (known (p .before .before) .number) (p .before .if1 .left) (fielded p)
-    (taken (r .before .before .before))
+    (taken (r .before .before .before .before))
     (worked r) (λ z. omega (arith, c .before .if3 .taken, c .before .before .differ .ensures, z)) (c .check-refused4 .ensures)
-
-sub-t17 : tie.Need-sub-t17
-sub-t17 c = let t = taken (c .before .before .before .before .before .before .before) in omega (arith, t .start, t .end)
 
 returns-5 : tie.Need-returns-5
 returns-5 c =
     let r = c .before .before .before .before in
     let p = apart-place r in
-    all-pass digestOf (size p) (trusted p) (bytes p) (known (p .before .before) .number) (p .before .if1 .left) (fielded p) (taken (r .before .before .before))
+    all-pass digestOf (size p) (trusted p) (bytes p) (known (p .before .before) .number) (p .before .if1 .left) (fielded p) (taken (r .before .before .before .before))
     (worked r) (omega (arith, c .before .differ .ensures, c .if3 .left))
 
 pub check-spec : {M : Type 1} → statement M
@@ -114,6 +114,7 @@ check-spec =
     (λ c κs. search needs)
     (λ c κs. search needs)
     returns-3
+    add-end
     sub-root-of
     part-root-of-start
     part-root-of-end
@@ -125,5 +126,4 @@ check-spec =
     (λ c κs. search needs)
     (λ c κs. search needs)
     returns-4
-    sub-t17
     returns-5)

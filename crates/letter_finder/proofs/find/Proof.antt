@@ -76,24 +76,27 @@ module _ (c : tie.Else3) where
   formed-fields : Apart (start counted-at .args .size) (n counted-at) letter (c .before .before .take-apart .ensures)
   formed-fields = apart (start counted-at .args .size) (n counted-at) letter (c .before .before .take-apart .ensures) (c .if3 .left)
 
+add-end : tie.Need-add-end
+add-end c = let f = formed-fields (c .before) in omega (arith, f .start, f .long, f .short)
+
 sub-against : tie.Need-sub-against
-sub-against c = let f = formed-fields c in omega (arith, f .start, f .end)
+sub-against c = let f = formed-fields (c .before) in omega arith
 
 part-against-start : tie.Need-part-against-start
-part-against-start c = let f = formed-fields c in omega (arith, f .start, f .end)
+part-against-start c = let f = formed-fields (c .before) in omega arith
 
 part-against-end : tie.Need-part-against-end
-part-against-end c = let f = formed-fields c in omega (arith, f .exact)
+part-against-end c = let f = formed-fields (c .before) in omega (arith, f .exact)
 
 sub-against-2 : tie.Need-sub-against-2
-sub-against-2 c = let f = formed-fields (c .before) in omega (arith, f .exact)
+sub-against-2 c = let f = formed-fields (c .before .before) in omega (arith, f .exact)
 
 part-against-start-2 : tie.Need-part-against-start-2
-part-against-start-2 c = let f = formed-fields (c .before) in omega (arith, f .exact)
+part-against-start-2 c = let f = formed-fields (c .before .before) in omega (arith, f .exact)
 
 against-requires : tie.Need-against-requires
 against-requires c κs =
-    let s = c .before .before .before .before in
+    let s = c .before .before .before .before .before in
     let k = known (counted-at s) in
     (formed-fields s .inside, k .most)
 
@@ -101,7 +104,7 @@ returns-5 : tie.Need-returns-5
 unfolding rootOrder
 returns-5 c =
     let done = c .before .before .before .before in
-    let s = done .before .before .before .before .before in
+    let s = done .before .before .before .before .before .before in
     let a = start (counted-at s) .args in
     let k = known (counted-at s) in
     let e = s .before .before .take-apart .ensures in
@@ -130,6 +133,7 @@ find-spec =
     (λ c κs. search needs)
     (λ c κs. search needs)
     returns-4
+    add-end
     sub-against
     part-against-start
     part-against-end

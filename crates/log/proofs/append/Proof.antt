@@ -9,7 +9,7 @@ use Rattle.shape.specs.Sizes.{sizeOf, leaves}
 use Rattle.log.specs.Outcome.{appended, appendOrder, appendOutcome}
 use Rattle.log.specs.declared.Appended.{Appended}
 use Rattle.shape.proofs.Counting.{Counts, counts-leaves, counts-none, grown-size, merges-few, lefts-room}
-use Rattle.log.proofs.Done.{new-bytes, new-fits, append-done}
+use Rattle.log.proofs.Done.{leaf-bytes, new-bytes, new-fits, append-done}
 use borrow.Author.Needs.{needs}
 use Rattle.log.proofs.append.Statement.{statement}
 use Rattle.log.proofs.append.Tie as tie
@@ -62,40 +62,65 @@ add-grown c = let r = rooms c in omega arith
 mul-if3 : tie.Need-mul-if3
 mul-if3 c = let r = rooms c in omega arith
 
-lefts-requires : tie.Need-lefts-requires
-lefts-requires c κs = rooms (c .before .before)
-
 mul-at : tie.Need-mul-at
-mul-at c = let r = rooms (c .before .before .before) in omega arith
+mul-at c = let r = rooms (c .before) in omega arith
 
-sub-write-new : tie.Need-sub-write-new
-sub-write-new c = let r = rooms (c .before .before .before) in omega arith
-
-part-write-new-start : tie.Need-part-write-new-start
-part-write-new-start c = let r = rooms (c .before .before .before) in omega arith
-
-write-new-requires : tie.Need-write-new-requires
-write-new-requires c κs =
-    let a = c .before .before .before .before .before .before .before .before .before .before .before .before .before .args in
-    let r = rooms (c .before .before .before .before) in
-    let rest = drop (32 * a .size) (a .nodes .now) in
-    (r .0, omega (arith, length-take-le (length (a .nodes .now) - 32 * a .size) rest (omega (arith, length-drop (32 * a .size) (a .nodes .now)))))
-
+-- no merge: the leaf alone
 same-length : tie.Need-same-length
 same-length c =
-    let a = c .before .before .before .before .before .before .before .before .before .before .before .before .before .before .before .before .args in
-    let k = known (c .before .before .before .before .before .before .before .before .before .before) in
-    let e = c .before .before .before .before .before .before .before .merges .ensures in
-    ap length (new-bytes (a .rec .now) (a .nodes .now) k e (omega arith) (c .before .before .before .before .lefts .ensures)
-    (c .before .before .write-new .ensures) refl)
+    let a = c .before .before .before .before .before .before .before .before .before .before .before .before .before .before .before .before .before .args in
+    let k = known (c .before .before .before .before .before .before .before .before .before .before .before) in
+    let e = c .before .before .before .before .before .before .before .before .merges .ensures in
+    ap length
+    (leaf-bytes (a .rec .now) (a .nodes .now) k e (omega arith) (c .before .before .before .before .before .before .if4 .taken) (c .before .before .write-digest .ensures)
+    (c .before .before .before .before .before .digest-of .ensures))
     ∙ new-fits (a .rec .now) (a .nodes .now) k e (omega arith)
 
 returns-5 : tie.Need-returns-5
 unfolding appendOutcome appendOrder
 returns-5 c =
-    let a = c .before .before .before .before .before .before .before .before .before .before .before .before .before .before .before .before .args in
-    let k = known (c .before .before .before .before .before .before .before .before .before .before) in
-    let m = c .before .before .before .before .before .before .before .merges in
+    let a = c .before .before .before .before .before .before .before .before .before .before .before .before .before .before .before .before .before .args in
+    let k = known (c .before .before .before .before .before .before .before .before .before .before .before) in
+    let m = c .before .before .before .before .before .before .before .before .merges in
+    let z = c .before .before .before .before .before .before .if4 .taken in
+    let g : sizeOf (suc (leaves (a .size))) ≡ a .size + (1 + m .result) = grown-size k (m .ensures) in
+    let h : 1 ≡ 1 + m .result = omega (arith, z) in
+    let w = leaf-bytes (a .rec .now) (a .nodes .now) k (m .ensures) (omega arith) z (c .before .before .write-digest .ensures)
+    (c .before .before .before .before .before .digest-of .ensures) in
+    passes _ _ _ (append-done (a .rec .now) (a .nodes .now) k (m .ensures) (omega arith) refl refl h w) (search needs)
+
+-- and with merges
+lefts-requires : tie.Need-lefts-requires
+lefts-requires c κs = rooms (c .before .before .before)
+
+sub-write-new : tie.Need-sub-write-new
+sub-write-new c = let r = rooms (c .before .before .before .before) in omega arith
+
+part-write-new-start : tie.Need-part-write-new-start
+part-write-new-start c = let r = rooms (c .before .before .before .before) in omega arith
+
+write-new-requires : tie.Need-write-new-requires
+write-new-requires c κs =
+    let a = c .before .before .before .before .before .before .before .before .before .before .before .before .before .before .args in
+    let r = rooms (c .before .before .before .before .before) in
+    let rest = drop (32 * a .size) (a .nodes .now) in
+    (r .0, omega (arith, length-take-le (length (a .nodes .now) - 32 * a .size) rest (omega (arith, length-drop (32 * a .size) (a .nodes .now)))))
+
+same-length-2 : tie.Need-same-length-2
+same-length-2 c =
+    let a = c .before .before .before .before .before .before .before .before .before .before .before .before .before .before .before .before .before .args in
+    let k = known (c .before .before .before .before .before .before .before .before .before .before .before) in
+    let e = c .before .before .before .before .before .before .before .before .merges .ensures in
+    ap length (new-bytes (a .rec .now) (a .nodes .now) k e (omega arith) (c .before .before .before .before .lefts .ensures)
+    (c .before .before .write-new .ensures) refl)
+    ∙ new-fits (a .rec .now) (a .nodes .now) k e (omega arith)
+
+returns-6 : tie.Need-returns-6
+unfolding appendOutcome appendOrder
+returns-6 c =
+    let a = c .before .before .before .before .before .before .before .before .before .before .before .before .before .before .before .before .before .args in
+    let k = known (c .before .before .before .before .before .before .before .before .before .before .before) in
+    let m = c .before .before .before .before .before .before .before .before .merges in
     let g : sizeOf (suc (leaves (a .size))) ≡ a .size + (1 + m .result) = grown-size k (m .ensures) in
     let w = new-bytes (a .rec .now) (a .nodes .now) k (m .ensures) (omega arith) (c .before .before .before .before .lefts .ensures)
     (c .before .before .write-new .ensures) refl in
@@ -121,11 +146,15 @@ append-spec =
     mul-if3
     (λ c κs. search needs)
     returns-4
-    lefts-requires
     mul-at
+    (λ c κs. search needs)
+    (λ c κs. search needs)
+    same-length
+    returns-5
+    lefts-requires
     sub-write-new
     part-write-new-start
     (λ c. search needs)
     write-new-requires
-    same-length
-    returns-5)
+    same-length-2
+    returns-6)
