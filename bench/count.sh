@@ -1,5 +1,9 @@
-# What the counting scripts share beside common.sh: BLAKE3's portable C by two compilers, and the counting of a program's calls.
+# What the counting scripts share: BLAKE3's portable C by two compilers, and the counting of a program's calls. $top is set before.
 # shellcheck shell=sh disable=SC2034,SC2154
+# shellcheck source=shell/common.sh
+. "$top/shell/common.sh"
+# shellcheck source=shell/built.sh
+. "$top/shell/built.sh"
 here=$top/bench
 flags='-O3 -march=x86-64 -DBLAKE3_NO_SSE2 -DBLAKE3_NO_SSE41 -DBLAKE3_NO_AVX2 -DBLAKE3_NO_AVX512'
 
@@ -116,3 +120,9 @@ counted_by_both() {
 table() {
     awk -F '\t' -f "$here/reads.awk" -f "$here/$1.awk" "$work/times" "$work/measured"
 }
+
+find_kit
+one_at_a_time
+make_work
+find_sources
+find_compilers

@@ -6,17 +6,8 @@
 set -eu
 here=$(readlink -f -- "$0")
 top=${here%/*/*}
-# shellcheck source=shell/common.sh
-. "$top/shell/common.sh"
-# shellcheck source=shell/built.sh
-. "$top/shell/built.sh"
-find_kit
-one_at_a_time
-make_work
 # shellcheck source=bench/count.sh
 . "$top/bench/count.sh"
-find_sources
-find_compilers
 static_library keeper
 counted "$work/find" -I"$top/include" "$here/find.c" "$archive"
 table find
