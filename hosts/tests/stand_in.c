@@ -241,13 +241,13 @@ uint32_t keeper_find(uint64_t size, const uint8_t *nodes, size_t nodes_len, cons
     (void)first, (void)second;
     if (number == KEEPER_DONE) number = check_fields(size, top, letter, letter_len);
     if (number != KEEPER_DONE) return number;
-    uint64_t index = number_at(letter + 8, 8), leaves = 0, first;
+    uint64_t index = number_at(letter + 8, 8), leaves = 0, peak;
     unsigned lefts;
     if (record_len > LONGEST) return KEEPER_RECORD_TOO_LONG;
     digest(record, record_len, own);
     if (memcmp(own, nodes + NODE * size_of(index), NODE) != 0) return KEEPER_OTHER_RECORD;
     keeper_leaf_count(size, &leaves);
-    unsigned height = peak_of(leaves, index, &first, &lefts);
+    unsigned height = peak_of(leaves, index, &peak, &lefts);
     for (unsigned k = 1; k <= height; k++) {
         const uint8_t *parent = nodes + NODE * place(index, k);
         digest_pair(parent - NODE * ((uint64_t)1 << k), parent - NODE, own);
