@@ -91,7 +91,9 @@ class Signals(HostTest):
     def test_stream_keeps_what_came_in(self):
         for number, name in ((signal.SIGINT, b"SIGINT"), (signal.SIGTERM, b"SIGTERM"), (signal.SIGHUP, b"SIGHUP")):
             log = self.folder / name.decode()
-            with subprocess.Popen([KEEPER, "append", log, "--stream"], stdin=subprocess.PIPE, stdout=subprocess.PIPE, stderr=subprocess.PIPE) as writer:
+            # a shell without job control starts what goes beside it with SIGINT ignored, and so would be what the tests start
+            with subprocess.Popen([KEEPER, "append", log, "--stream"], stdin=subprocess.PIPE, stdout=subprocess.PIPE, stderr=subprocess.PIPE,
+                                  preexec_fn=lambda number=number: signal.signal(number, signal.SIG_DFL)) as writer:
                 writer.stdin.write(stream_of(RECORDS[:4]) + b"\0\0\0\7abc")
                 writer.stdin.flush()
                 self.wait_for(4, log)
