@@ -5,9 +5,10 @@ use Prim.Native.Nat.{ℕ, zero, suc, _+_, _-_, _*_, _/_, _%_, _≤_, _<_, zero-l
 use native.Mathlib.Omega.{arith}
 use lib.ListN.{length, getD, take, drop, length-drop}
 use lib.Seq.{take-nil, take-all, take-take, drop-drop, length-take-le}
-use Rattle.compression.specs.Build.{build}
-use Rattle.compression.proofs.Builds.{build-length, build-at, build-same, build-self}
-use Rattle.compression.specs.Compression.{compressed, wordsOf}
+use Rattle.words.specs.Build.{build}
+use Rattle.words.proofs.Builds.{build-length, build-at, build-same, build-self}
+use Rattle.compression.specs.Compression.{compressed}
+use Rattle.words.specs.Words.{wordsOf}
 use Rattle.blake.specs.Blake.{startFlag, chained, before, chunked, parented, treed}
 use Rattle.blake.specs.Steps.{laneOf, laned, chunkIn, compressed4}
 use Rattle.blake.proofs.Lengths.{chained-length, chunked-length}

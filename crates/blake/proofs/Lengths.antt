@@ -8,9 +8,10 @@ use native.Mathlib.Decide.{decLt}
 use native.Mathlib.Omega.{arith}
 use lib.Dec.{lit<}
 use lib.ListN.{length, getD, List·getD-eq-default}
-use Rattle.compression.specs.Build.{build}
-use Rattle.compression.proofs.Builds.{build-length, build-at}
-use Rattle.compression.specs.Compression.{starting, compressed, halved, byteOf, bytesOf}
+use Rattle.words.specs.Build.{build}
+use Rattle.words.proofs.Builds.{build-length, build-at}
+use Rattle.compression.specs.Compression.{starting, compressed, halved}
+use Rattle.words.specs.Words.{byteOf, bytesOf}
 use Rattle.blake.specs.Blake.{rootNode, chained, chunked, treeOf, digested, plainHash}
 
 pub compressed-length : (cv m : List ℕ) (n len flags : ℕ) → length (compressed cv m n len flags) ≡ 8

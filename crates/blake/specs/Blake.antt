@@ -4,7 +4,8 @@ use mathlib.Core.Bool.{true, false}
 use Prim.Native.Nat.{ℕ, zero, suc, _+_, _-_, _*_, _/_, _^_}
 use lib.ListN.{length, take, drop}
 use lib.Dec.{leb}
-use Rattle.compression.specs.Compression.{bytesOf, compressed, starting, wordsOf}
+use Rattle.compression.specs.Compression.{compressed, starting}
+use Rattle.words.specs.Words.{bytesOf, wordsOf}
 
 -- the flags CHUNK_START, CHUNK_END, PARENT and ROOT
 abbrev pub chunkStart : ℕ

@@ -2,8 +2,9 @@
 use mathlib.Core.List.{List}
 use Prim.Native.Nat.{ℕ, _+_, _*_, _/_, _%_, _^_, _≤_}
 use lib.ListN.{getD, take, drop}
-use Rattle.compression.specs.Build.{build}
-use Rattle.compression.specs.Compression.{compressed, wordsOf}
+use Rattle.words.specs.Build.{build}
+use Rattle.compression.specs.Compression.{compressed}
+use Rattle.words.specs.Words.{wordsOf}
 
 -- ---- Four lists of eight words in one: word i of lane k is at 8 * k + i
 

@@ -6,7 +6,7 @@ ghost use Rattle.blake.specs.Blake.{chunked};
 use crate::flags::CHUNK_END;
 use crate::flags::CHUNK_START;
 use compression::compress::compress;
-use compression::word::load;
+use words::load;
 
 // The chaining words of chunk number n, of at most 1,024 bytes.
 pub(crate) fn chunk(key: [u32; 8], flag: u32, root: u32, n: u64, bytes: &[u8]) -> [u32; 8]

@@ -7,7 +7,7 @@ ghost use Rattle.blake.specs.Steps.{laneOf, laned, chunkIn, compressed4}
 use crate::flags::CHUNK_END;
 use crate::flags::CHUNK_START;
 use compression::compress::compress_lane;
-use compression::word::load;
+use words::load;
 
 // Lane k of four.
 pub(crate) fn lane(v: &[u32; 32], k: usize) -> [u32; 8]

@@ -12,9 +12,9 @@ use crate::flags::ROOT;
 use crate::lane::chunk4;
 use crate::lane::lane;
 use compression::compress::compress;
-use compression::word::join;
-use compression::word::load_half;
-use compression::word::unload;
+use words::join;
+use words::load_half;
+use words::unload;
 
 // A parent of two chaining values.
 fn parent(key: [u32; 8], flag: u32, root: u32, l: [u32; 8], r: [u32; 8]) -> [u32; 8]

@@ -1,5 +1,3 @@
--- Laws of lists by their rule, of loops that fill one, of turned words and of blocks.
-pub mod Builds
-pub mod Fill
+-- Laws of turned words, and of the words that a compression starts from.
 mod Turns
-pub mod Blocks
+mod Begun

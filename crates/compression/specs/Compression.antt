@@ -1,9 +1,9 @@
--- BLAKE3's compression function, and words as bytes, in the order of its public specification. Words are numbers below 2 ^ 32, bytes below 256.
+-- BLAKE3's compression function, in the order of its public specification. Words are numbers below 2 ^ 32, bytes below 256.
 use mathlib.Core.List.{List, [], _∷_, _++_}
 use Prim.Native.Nat.{ℕ, zero, suc, _+_, _-_, _*_, _/_, _%_, _^_}
 use lib.ListN.{getD, take, set}
 use lib.Bits.{bitXor}
-use Rattle.compression.specs.Build.{build}
+use Rattle.words.specs.Build.{build}
 
 -- ---- Constants
 
@@ -81,22 +81,3 @@ halved s = build 8 (λ i. bitXor (getD s i 0) (getD s (i + 8) 0))
 -- one compression: chaining words, message words, counter, block length, flags
 unfoldable pub compressed : List ℕ → List ℕ → ℕ → ℕ → ℕ → List ℕ
 compressed cv m n len flags = halved (rounds 7 (begun cv n len flags) m)
-
--- ---- Words and bytes, little-endian
-
--- the word at place i of bytes; a byte past the end is 0
-unfoldable pub wordAt : List ℕ → ℕ → ℕ
-wordAt bs i =
-    getD bs i 0 + 256 * getD bs (i + 1) 0 + 65536 * getD bs (i + 2) 0 + 16777216 * getD bs (i + 3) 0
-
--- the first k words of bytes, padded with zeros
-unfoldable pub wordsOf : ℕ → List ℕ → List ℕ
-wordsOf k bs = build k (λ i. wordAt bs (4 * i))
-
--- byte i of words
-unfoldable pub byteOf : List ℕ → ℕ → ℕ
-byteOf ws i = getD ws (i / 4) 0 / 2 ^ (8 * (i % 4)) % 256
-
--- eight words as 32 bytes
-unfoldable pub bytesOf : List ℕ → List ℕ
-bytesOf ws = build 32 (byteOf ws)

@@ -1,3 +1,2 @@
--- Lists by their rule, and the compression function.
-pub mod Build
+-- The compression function.
 pub mod Compression

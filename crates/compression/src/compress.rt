@@ -1,8 +1,8 @@
 // The compression function.
 ghost use mathlib.Core.Path.{_≡_};
 ghost use mathlib.Core.List.{_∷_, []};
-ghost use Rattle.compression.specs.Compression.{mixed, columned, diagonaled, rounds, permuted, halved, begun, compressed};
-use crate::word::turn;
+ghost use Prim.Native.Nat.{_<_};
+ghost use Rattle.compression.specs.Compression.{turnRight, mixed, columned, diagonaled, rounds, permuted, halved, begun, compressed};
 
 // The starting words.
 pub const START: [u32; 8] = [
@@ -25,6 +25,14 @@ struct Four {
     b: u32,
     c: u32,
     d: u32,
+}
+
+// The word x turned right by k.
+fn turn(x: u32, k: u32) -> u32
+    requires { ⌜ (0 < k) × (k < 32) ⌝ }
+    ensures { λ r. ⌜ r ≡ turnRight x k ⌝ }
+{
+    (x >> k) | (x << (32 - k))
 }
 
 // Four words, mixed with x and y.

@@ -1,3 +1,2 @@
-// The compression function of BLAKE3, and words as bytes.
+// The compression function of BLAKE3.
 pub mod compress;
-pub mod word;

@@ -1,5 +1,4 @@
--- Laws of two inputs, of two lists of them, and of the answer.
-pub mod Differences
-mod Lists
+-- Laws of an input written, and of the answer.
+mod Puts
 pub mod Settled
 pub mod Only

@@ -1,3 +1,2 @@
--- What a comparison answers, and what the code's own values are called.
-pub mod Inputs
+-- What a comparison answers.
 pub mod Outcome

@@ -1,12 +1,11 @@
 -- What a comparison answers, from the root down and then by the records, and what it leaves in the two buffers.
-use mathlib.Core.Bool.{true, false}
 use mathlib.Core.List.{List, [], _∷_}
-use Prim.Native.Nat.{ℕ, zero, suc, _/_}
-use lib.Dec.{leb}
+use Prim.Native.Nat.{ℕ, zero, suc}
 use lib.ListN.{length}
 use Rattle.order.specs.Order.{Refusal, _if_, _under_, verdict}
-use Rattle.wire.specs.Slices.{rowsFrom, splice, differ}
-use Rattle.shape.specs.Difference.{Diff, agree, unequal, difference}
+use Rattle.wire.specs.Slices.{splice, differ}
+use Rattle.shape.specs.Difference.{Diff, agree, unequal}
+use Rattle.inputs.specs.Given.{givenDifference}
 use Rattle.difference.specs.declared.Finding.{Finding}
 use Rattle.difference.specs.declared.Finding.the-variants.{Nothing, Same, Records, Pair}
 use Rattle.difference.specs.declared.Found.{Found}
@@ -48,16 +47,6 @@ settled diff apart first second =
     verdict (findRefused first second) (roomOrder first second) (findDone diff apart first second)
 
 -- ---- two given lists
-
--- as many inputs, 64 bytes each, as both of two runs have
-unfoldable pub inBoth : List ℕ → List ℕ → ℕ
-inBoth ours theirs = elim (leb (length ours) (length theirs)) [ true ↦ length ours / 64 | false ↦ length theirs / 64 ]
-
--- the first difference of two given lists of inputs
-unfoldable pub givenDifference : List ℕ → List ℕ → Diff
-givenDifference ours theirs =
-    let k = inBoth ours theirs in
-    difference (rowsFrom 64 0 k ours) (rowsFrom 64 0 k theirs)
 
 -- two given lists of inputs and two given records compared as the finder does it, 6 tested whatever the outcome
 unfoldable pub compareOutcome : List ℕ → List ℕ → List ℕ → List ℕ → List ℕ → List ℕ → FindOutcome

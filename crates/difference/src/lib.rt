@@ -3,7 +3,6 @@ ghost use mathlib.Core.Path.{_≡_};
 ghost use Rattle.difference.specs.Outcome.{found, compareOutcome};
 ghost use Rattle.difference.specs.declared.Finding.the-variants.{Nothing};
 
-pub mod first;
 pub mod settle;
 
 // What is found. A refusal finds nothing.
@@ -44,7 +43,7 @@ pub fn compare(
         ≡ compareOutcome (now (ours .entry)) (now (theirs .entry)) (now (rec .entry)) (now (other .entry))
         (now (first .entry)) (now (second .entry)) ⌝ }
 {
-    let highest = first::first_difference(ours, theirs);
+    let highest = inputs::first_difference(ours, theirs);
     let apart = wire::differ(rec, other);
     settle::settle(highest, apart, first, second)
 }

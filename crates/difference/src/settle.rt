@@ -3,11 +3,11 @@ ghost use mathlib.Core.Path.{_≡_};
 ghost use lib.ListN.{length};
 ghost use Rattle.wire.specs.Slices.{written};
 ghost use Rattle.difference.specs.Outcome.{found, settled};
-ghost use Rattle.difference.specs.Inputs.{bytesOf, told};
+ghost use Rattle.inputs.specs.Inputs.{bytesOf, told};
 use crate::Finding;
 use crate::Found;
-use crate::first::Difference;
-use crate::first::Input;
+use inputs::Difference;
+use inputs::Input;
 
 // Writes an input, 64 bytes, over the first 64 of d. A write that does not fit wholly changes nothing.
 pub fn put(d: &mut [u8], x: Input)

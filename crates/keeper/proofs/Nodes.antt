@@ -18,7 +18,7 @@ use Rattle.stored.specs.declared.Node.{Node}
 use Rattle.stored.specs.declared.Node.the-variants.{Inner, Leaf, NotANode, RecordTooLong}
 use Rattle.stored.specs.declared.Reading.{Reading}
 use Rattle.stored.specs.Nodes.{flagIn, digestIn, statedIn}
-use Rattle.stored.specs.Write.{innerOutcome}
+use Rattle.stored_writer.specs.Outcome.{innerOutcome}
 use Rattle.stored.specs.Read.{ReadOutcome, innerRead, leafRead, readRefused, valuesOf, readOff, readOrder, readDone, readOutcome}
 use Rattle.keeper.specs.Calls.{outOrder, writeLeft, writeCall}
 use Rattle.keeper.specs.Nodes.{storeInnerCall, ReadLeft, readLeft, kindNumber, readWritten, readCall}

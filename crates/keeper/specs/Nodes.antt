@@ -7,7 +7,7 @@ use Rattle.digest.specs.Digest.{digestOf}
 use Rattle.order.specs.Order.{_if_, _is-not_, verdict}
 use Rattle.wire.specs.Slices.{splice}
 use Rattle.wire.specs.Writers.{WriteOutcome}
-use Rattle.stored.specs.Write.{leafOutcome, innerOutcome}
+use Rattle.stored_writer.specs.Outcome.{leafOutcome, innerOutcome}
 use Rattle.stored.specs.Read.{Kind, none, inner, leaf, ReadOutcome, readOutcome}
 use Rattle.keeper.specs.Calls.{orKept, outOrder, writeLeft, writeCall}
 

@@ -110,7 +110,7 @@ pub extern "C" fn keeper_store_leaf(rec: &[u8], out: &mut [u8], length: &mut usi
     ensures { λ r. ⌜ writeLeft r (now (length .exit)) (now (out .exit))
         ≡ storeLeafCall (now (rec .entry)) (now (out .entry)) (now (length .entry)) ⌝ }
 {
-    let w = stored::write_leaf(rec, out);
+    let w = stored_writer::write_leaf(rec, out);
     if w.number != 0 {
         return w.number;
     }
@@ -127,7 +127,7 @@ pub extern "C" fn keeper_store_inner(digest: &[u8], out: &mut [u8], length: &mut
     if digest.len() != 32 {
         return 12;
     }
-    let w = stored::write_inner(wire::read_digest(digest, 0), out);
+    let w = stored_writer::write_inner(wire::read_digest(digest, 0), out);
     if w.number != 0 {
         return w.number;
     }

@@ -13,7 +13,7 @@ use Rattle.wire.proofs.Lent.{slice-part}
 use Rattle.shape.specs.Tree.{root}
 use Rattle.letter.specs.Bytes.{head, indexIn, statedIn, recordIn, itemsIn}
 use Rattle.letter.specs.Items.{itemCount, treeOf, letterTree, workedRoot}
-use Rattle.letter.specs.Checking.{itemsFor, FieldsOutcome, takenApart, fieldsRefused, fieldsOrder, fieldsOutcome}
+use Rattle.letter.specs.Checking.{itemsFor, FieldsOutcome, takenApart, fieldsRefused, behindOrder, fieldsOrder, fieldsOutcome}
 use Rattle.letter.specs.declared.Fields.{Fields}
 use Rattle.wire.proofs.Rows.{digests-drop}
 
@@ -35,7 +35,7 @@ module _ (size n : ℕ) (letter : List ℕ) {r : Fields} (e : takenApart r ≡ f
     pub exact : length letter ≡ r .start + r .length + 32 * itemsFor n letter
 
   pub apart : r .number ≡ 0 → Apart
-  unfolding fieldsOutcome fieldsOrder
+  unfolding fieldsOutcome fieldsOrder behindOrder
   apart z =
       let a = accepted (λ (o : FieldsOutcome). o .number) fieldsRefused (fieldsOrder size n letter) _ (λ k. refl) refl e tt z in
       let i : r .index ≡ indexIn letter = ap (λ (o : FieldsOutcome). o .index) (a .1) in

@@ -9,7 +9,7 @@ use Rattle.wire.specs.Numbers.{Bytes}
 use Rattle.wire.proofs.Differences.{differ-same, same-of-differ}
 use Rattle.letter.specs.Bytes.{letterBytes, sizeIn, indexIn, statedIn, recordIn, itemsIn}
 use Rattle.letter.specs.Items.{workedRoot}
-use Rattle.letter.specs.Checking.{itemsFor, exactLength, fieldsOrder, from7}
+use Rattle.letter.specs.Checking.{itemsFor, exactLength, behindOrder, fieldsOrder, from7}
 use Rattle.letter.proofs.Spelling.{spelt}
 
 module _ (digest : List ℕ → List ℕ) (size n : ℕ) (root letter : List ℕ) where
@@ -23,7 +23,7 @@ module _ (digest : List ℕ → List ℕ) (size n : ℕ) (root letter : List ℕ
     pub rooted : root ≡ workedRoot digest n letter
 
   pub pass-fits : Passes (from7 digest size n root letter) → Fits
-  unfolding from7 fieldsOrder
+  unfolding from7 fieldsOrder behindOrder
   pass-fits p =
       record {
         long = p .0;
@@ -36,7 +36,7 @@ module _ (digest : List ℕ → List ℕ) (size n : ℕ) (root letter : List ℕ
       }
 
   pub fits-pass : Fits → Passes (from7 digest size n root letter)
-  unfolding from7 fieldsOrder
+  unfolding from7 fieldsOrder behindOrder
   fits-pass f =
       (f .long, (f .named, (f .inside, (f .few, (f .short, (f .exact, (differ-same root (workedRoot digest n letter) (f .rooted), tt)))))))
 

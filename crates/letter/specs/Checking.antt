@@ -17,17 +17,18 @@ itemsFor n letter = itemCount n (indexIn letter)
 abbrev pub exactLength : ℕ → List ℕ → ℕ
 exactLength n letter = head + statedIn letter + 32 * itemsFor n letter
 
--- letter under 20 bytes; letter names another size; index not below the leaf count; more than 32 items needed; stated record length above
--- 16,384; not of its exact length
-unfoldable pub fieldsOrder : ℕ → ℕ → List ℕ → List Refusal
-fieldsOrder size n letter =
-    7 if length letter under head
-    ∷ 8 if sizeIn letter is-not size
-    ∷ 5 if indexIn letter not-below n
+-- behind the size: index not below the leaf count; more than 32 items needed; stated record length above 16,384; not of its exact length
+unfoldable pub behindOrder : ℕ → List ℕ → List Refusal
+behindOrder n letter =
+    5 if indexIn letter not-below n
     ∷ 15 if itemsFor n letter above 32
     ∷ 3 if statedIn letter above longestRecord
     ∷ 7 if length letter is-not exactLength n letter
     ∷ []
+
+-- letter under 20 bytes; letter names another size; then what stands behind the size
+unfoldable pub fieldsOrder : ℕ → ℕ → List ℕ → List Refusal
+fieldsOrder size n letter = 7 if length letter under head ∷ 8 if sizeIn letter is-not size ∷ behindOrder n letter
 
 -- the checking order from 7: the fields, then 9, root worked out from the letter differs
 unfoldable pub from7 : (List ℕ → List ℕ) → ℕ → ℕ → List ℕ → List ℕ → List Refusal
@@ -48,7 +49,13 @@ takenApart r = record { number = r .number; index = r .index; start = r .start; 
 abbrev pub fieldsRefused : ℕ → FieldsOutcome
 fieldsRefused number = record { number = number; index = 0; start = 0; length = 0 }
 
+-- done: the fields that stand in it
+abbrev pub fieldsDone : List ℕ → FieldsOutcome
+fieldsDone letter = record { number = 0; index = indexIn letter; start = head; length = statedIn letter }
+
+-- behind the size alone, and all
+unfoldable pub behindOutcome : ℕ → List ℕ → FieldsOutcome
+behindOutcome n letter = verdict fieldsRefused (behindOrder n letter) (fieldsDone letter)
+
 unfoldable pub fieldsOutcome : ℕ → ℕ → List ℕ → FieldsOutcome
-fieldsOutcome size n letter =
-    verdict fieldsRefused (fieldsOrder size n letter)
-    (record { number = 0; index = indexIn letter; start = head; length = statedIn letter })
+fieldsOutcome size n letter = verdict fieldsRefused (fieldsOrder size n letter) (fieldsDone letter)

@@ -1,5 +1,5 @@
--- The items of a letter, over any digest function: how many there are, what a log's nodes give for them and for the leaf,
--- the root worked out from them.
+-- The items of a letter, over any digest function: how many there are, what a log's nodes, any function from position to digest, give for them and
+-- for the leaf, the root worked out from them.
 use mathlib.Core.Bool.{true, false, _&&_}
 use mathlib.Core.List.{List, [], map}
 use Prim.Native.Nat.{ℕ}
@@ -11,7 +11,6 @@ use Rattle.shape.specs.Sizes.{positionAnswer}
 use Rattle.shape.specs.Positions.{itemPositions, fold}
 use Rattle.shape.specs.Tree.{Tree, root}
 use Rattle.shape.specs.Letter.{way, fill}
-use Rattle.nodes.specs.Nodes.{nodeIn}
 use Rattle.letter.specs.Bytes.{indexIn, recordIn, itemsIn}
 
 -- the number of items for index i of n leaves: one for each turn on the way to it, as many as RULES 9.2 lists (`items-counted`)
@@ -19,19 +18,19 @@ unfoldable pub itemCount : ℕ → ℕ → ℕ
 itemCount n i = length (way n i)
 
 -- the leaf at index i's place
-abbrev pub leafIn : List ℕ → ℕ → List ℕ
-leafIn bs i = nodeIn bs (positionAnswer i .value)
+abbrev pub leafIn : (ℕ → List ℕ) → ℕ → List ℕ
+leafIn node i = node (positionAnswer i .value)
 
 module _ (digest : List ℕ → List ℕ) where
-  -- the items of index i, an index of n leaves, n at most 2^32, from the nodes in a buffer: peaks left of i's peak, tallest first; siblings from
-  -- the leaf upward; if peaks stand to the right, one digest, those peaks folded as for the root. Other numbers have no items
-  unfoldable pub itemsOf : List ℕ → ℕ → ℕ → List (List ℕ)
-  itemsOf bs n i =
-      elim (ltb i n && leb n mostLeaves) [ true ↦ map (fold digest (nodeIn bs)) (itemPositions n i) | false ↦ [] ]
+  -- the items of index i, an index of n leaves, n at most 2^32, from the log's nodes: peaks left of i's peak, tallest first; siblings from the leaf
+  -- upward; if peaks stand to the right, one digest, those peaks folded as for the root. Other numbers have no items
+  unfoldable pub itemsOf : (ℕ → List ℕ) → ℕ → ℕ → List (List ℕ)
+  itemsOf node n i =
+      elim (ltb i n && leb n mostLeaves) [ true ↦ map (fold digest node) (itemPositions n i) | false ↦ [] ]
 
   -- 1 where a record's digest isn't the leaf at its place, else 0
-  unfoldable pub foreign : List ℕ → ℕ → List ℕ → ℕ
-  foreign bs i rec = differ (digest rec) (leafIn bs i)
+  unfoldable pub foreign : (ℕ → List ℕ) → ℕ → List ℕ → ℕ
+  foreign node i rec = differ (digest rec) (leafIn node i)
 
   -- the tree that a record and items make on the way to index i of n leaves
   abbrev pub treeOf : ℕ → ℕ → List ℕ → List (List ℕ) → Tree

@@ -1,6 +1,6 @@
 // What a proof letter is: taken apart, its items counted, and its record held to the leaf.
 ghost use mathlib.Core.Path.{_≡_};
-ghost use Rattle.letter.specs.Checking.{takenApart, fieldsRefused, fieldsOutcome};
+ghost use Rattle.letter.specs.Checking.{takenApart, fieldsRefused, behindOutcome, fieldsOutcome};
 
 pub mod count;
 pub mod leaf;
@@ -28,17 +28,10 @@ fn fields_refused(number: u32) -> Fields
     }
 }
 
-// Takes a letter apart, for a log of this size with n leaves. Refuses by 7 (under 20), 8, 5, 15, 3, 7 (exact).
-pub fn take_apart(size: u64, n: u64, letter: &[u8]) -> Fields
-    ensures { λ r. ⌜ takenApart r ≡ fieldsOutcome size n (now (letter .entry)) ⌝ }
+// The fields behind the size, for a log of n leaves. Refuses by 5, 15, 3, 7 (exact).
+pub fn behind_size(n: u64, letter: &[u8]) -> Fields
+    ensures { λ r. ⌜ takenApart r ≡ behindOutcome n (now (letter .entry)) ⌝ }
 {
-    let length = letter.len();
-    if length < HEAD {
-        return fields_refused(7);
-    }
-    if wire::read8(letter, 0) != size {
-        return fields_refused(8);
-    }
     let index = wire::read8(letter, 8);
     if n <= index {
         return fields_refused(5);
@@ -51,7 +44,7 @@ pub fn take_apart(size: u64, n: u64, letter: &[u8]) -> Fields
     if wire::LONGEST_RECORD < stated {
         return fields_refused(3);
     }
-    if length != HEAD + stated + 32 * items {
+    if letter.len() != HEAD + stated + 32 * items {
         return fields_refused(7);
     }
     Fields {
@@ -60,4 +53,17 @@ pub fn take_apart(size: u64, n: u64, letter: &[u8]) -> Fields
         start: HEAD,
         length: stated,
     }
+}
+
+// Takes a letter apart, for a log of this size with n leaves. Refuses by 7 (under 20), 8, and then by what stands behind the size.
+pub fn take_apart(size: u64, n: u64, letter: &[u8]) -> Fields
+    ensures { λ r. ⌜ takenApart r ≡ fieldsOutcome size n (now (letter .entry)) ⌝ }
+{
+    if letter.len() < HEAD {
+        return fields_refused(7);
+    }
+    if wire::read8(letter, 0) != size {
+        return fields_refused(8);
+    }
+    behind_size(n, letter)
 }

@@ -9,7 +9,7 @@ use lib.Dec.{T}
 use lib.ListN.{length}
 use Rattle.order.proofs.Laws.{numbered, accepted, passes, refusal}
 use Rattle.shape.specs.Sizes.{countAnswer, leaves}
-use Rattle.letter.specs.Checking.{fieldsOrder, from7}
+use Rattle.letter.specs.Checking.{behindOrder, fieldsOrder, from7}
 use Rattle.letter.proofs.Fits.{Fits, pass-fits, fits-pass}
 use Rattle.letter_checker.specs.Outcome.{CheckOutcome, checkRefused, checkDone, checkOrder, checkOutcome}
 
@@ -22,7 +22,7 @@ module _ (digest : List ℕ → List ℕ) (size : ℕ) (root letter : List ℕ) 
 
   -- every number is above 0
   pub check-numbered : T (numbered (checkOrder digest size root letter))
-  unfolding checkOrder from7 fieldsOrder
+  unfolding checkOrder from7 fieldsOrder behindOrder
   check-numbered = tt
 
   -- the number 0 says so, and the outcome is then the done one

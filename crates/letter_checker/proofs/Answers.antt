@@ -1,7 +1,7 @@
 -- What a check answers once the letter is taken apart: the refusal of its fields, 9, or done.
 use mathlib.Core.Path.{_≡_, sym, ap, _∙_}
 use mathlib.Core.List.{List, [], _∷_}
-use Prim.Native.Nat.{ℕ, _-_}
+use Prim.Native.Nat.{ℕ}
 use native.Mathlib.Omega.{arith}
 use lib.ListN.{length}
 use Rattle.order.specs.Order.{_if_, _is_, _is-not_, verdict}
@@ -9,7 +9,6 @@ use Rattle.order.proofs.Laws.{refuses, passes, early, late}
 use Rattle.wire.specs.Slices.{differ}
 use Rattle.shape.specs.Sizes.{countAnswer, leaves}
 use Rattle.letter.specs.declared.Fields.{Fields}
-use Rattle.letter.specs.Bytes.{statedIn}
 use Rattle.letter.specs.Items.{workedRoot}
 use Rattle.letter.specs.Checking.{takenApart, fieldsOrder, fieldsOutcome, from7}
 use Rattle.letter.proofs.Apart.{Apart, apart-number}

@@ -15,7 +15,7 @@ use Rattle.wire.specs.Slices.{part}
 use Rattle.wire.proofs.Parts.{part-take}
 use Rattle.shape.specs.Sizes.{leaves}
 use Rattle.letter.specs.Bytes.{sizeIn, indexIn, statedIn}
-use Rattle.letter.specs.Checking.{fieldsOrder, from7}
+use Rattle.letter.specs.Checking.{behindOrder, fieldsOrder, from7}
 use Rattle.letter_checker.specs.Outcome.{CheckOutcome, checkRefused, checkDone, checkOrder, checkOutcome, judged}
 
 -- the front of a letter has its fields
@@ -40,7 +40,7 @@ module _ (size n : ℕ) (l m : List ℕ) (es : sizeIn l ≡ sizeIn m) (ei : inde
   too-long x k s later h a b = first-is 7 _ (λ e. absurd (omega arith))
 
   same-fields : (xs ys : List Refusal) → firstNumber (fieldsOrder size n l ++ xs) ≡ firstNumber (fieldsOrder size n m ++ ys)
-  unfolding fieldsOrder
+  unfolding fieldsOrder behindOrder
   same-fields xs ys =
       first-next 7 _ _ (omega arith)
       ∙ rw (es, ei, et)

@@ -7,7 +7,7 @@ use lib.ListN.{length}
 use Rattle.wire.specs.Numbers.{Bytes}
 use Rattle.shape.specs.Tree.{Tips32, root, inputs}
 use Rattle.shape.specs.Letter.{way, fill}
-use Rattle.shape.specs.Difference.{decided, Diff, agree, unequal, difference, Shown}
+use Rattle.shape.specs.Difference.{decided, Diff, agree, unequal, difference, Collision, Shown}
 use Rattle.shape.proofs.Difference.{shown-map}
 use Rattle.shape.proofs.Bind.{bind}
 use Rattle.shape.proofs.Letters.{fill-alike, fill-32, fill-inj}
@@ -21,10 +21,10 @@ use Rattle.letter_checker.specs.Outcome.{CheckOutcome, checkOutcome}
 use Rattle.letter_checker.proofs.Accepted.{accepted-of}
 
 module _ (digest : List ℕ → List ℕ) where
-  -- what the first difference of the inputs of two letters shows: two strings with one digest; and where there is none, the letters are the
+  -- what the first difference of the inputs of two letters shows: a collision; and where there is none, the letters are the
   -- same, or their records are two strings with one digest
   abbrev pub Together : List ℕ → List ℕ → Diff → Type 0
-  Together l m (unequal a b) = (a ≢ b) × (digest a ≡ digest b)
+  Together l m (unequal a b) = Collision digest 64 a b
   Together l m agree = (l ≡ m) ⊎ ((recordIn l ≢ recordIn m) × (digest (recordIn l) ≡ digest (recordIn m)))
 
   module _ (digest-32 : (x : List ℕ) → length (digest x) ≡ 32) (size : ℕ) (trusted l m : List ℕ) (bytes-l : Bytes l) (bytes-m : Bytes m)

@@ -9,6 +9,7 @@ use Rattle.order.proofs.Laws.{Passes, refused-by}
 use Rattle.shape.specs.Tree.{Tree}
 use Rattle.shape.specs.Sizes.{leaves}
 use Rattle.shape.proofs.Counting.{Counts}
+use Rattle.nodes.specs.Nodes.{nodeIn}
 use Rattle.letter.specs.declared.Fields.{Fields}
 use Rattle.letter.specs.Bytes.{indexIn, recordIn}
 use Rattle.letter.specs.Items.{letterTree, workedRoot}
@@ -28,8 +29,9 @@ module _ {size n : ℕ} (letter : List ℕ) {r : Fields} (count : Counts size n)
     -- the slices compared are the letter compared
     pub formed : (bs rec first second : List ℕ) {x : FindOutcome}
         → x ≡ againstOutcome bs n (r .index) rec (recordSlice size n letter e) (itemsSlice size n letter e) first second
-        → x ≡ verdict (findRefused first second) (rootDiffers digestOf size bs rec letter first second)
-        (verdict (findRefused first second) (ownOrder digestOf (leaves size) bs rec (indexIn letter)) (last digestOf size bs rec letter first second))
+        → x ≡ verdict (findRefused first second) (rootDiffers digestOf (nodeIn bs) size rec letter first second)
+        (verdict (findRefused first second) (ownOrder digestOf (nodeIn bs) (leaves size) rec (indexIn letter))
+        (last digestOf (nodeIn bs) size rec letter first second))
     unfolding againstOutcome workedRoot
     formed bs rec first second f =
         f

@@ -1,6 +1,4 @@
 -- The laws of the finder.
 pub mod Stages
-mod Inputs
-mod Forks
-mod Turning
 mod Formed
+pub mod Local

@@ -6,8 +6,6 @@ ghost use Rattle.shape.specs.Seen.{broken};
 ghost use Rattle.nodes.specs.Nodes.{nodeIn};
 ghost use Rattle.difference.specs.Outcome.{found};
 ghost use Rattle.letter_finder.specs.Steps.{againstOutcome};
-use crate::broken;
-use crate::walk;
 use difference::Found;
 use digest::Digest;
 
@@ -31,7 +29,7 @@ fn way_broken(nodes: &[u8], n: u64, i: u64, apart: u8) -> u8
     if apart == 0 {
         return 0;
     }
-    broken::on_way(nodes, shape::height(n), n, i, 0)
+    letter_walk::broken_to(nodes, n, i)
 }
 
 // Compares the record `theirs` and the items of a letter for index i with the nodes of n leaves. Refuses by 9, then by 3 and 13 for the log's own
@@ -52,8 +50,8 @@ pub(crate) fn against(
         (now (first .entry)) (now (second .entry)) ⌝ }
 {
     let leaf = digest::digest_of(theirs);
-    let w = walk::walk(nodes, items, shape::height(n), n, i, 0, leaf, 0);
-    if difference::first::digests_differ(w.log, w.letter) != 0 {
+    let w = letter_walk::walk_to(nodes, items, n, i, leaf);
+    if inputs::digests_differ(w.log, w.letter) != 0 {
         return difference::find_refused(9);
     }
     if wire::LONGEST_RECORD < rec.len() {

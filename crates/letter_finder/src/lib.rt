@@ -5,8 +5,6 @@ ghost use Rattle.difference.specs.Outcome.{found};
 ghost use Rattle.letter_finder.specs.Outcome.{findOutcome};
 
 mod against;
-mod broken;
-mod walk;
 
 use difference::Found;
 use shape::Counted;

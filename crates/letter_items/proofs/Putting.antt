@@ -33,7 +33,7 @@ Room h n i s at room = (h ≤ 32) × (i < n) × (n ≤ 2 ^ h) × (s + 2 * 2 ^ h 
 -- what it leaves: the place behind the items, and the buffer with them
 abbrev pub Put : List ℕ → ℕ → ℕ → ℕ → ℕ → ℕ → List ℕ → ℕ → List ℕ → Type 0
 Put bs h n i s at d next last =
-    (next ≡ at + 32 * length (positionsIn (suc h) n i s)) × (last ≡ splice at (joined (itemsFrom digestOf bs h n i s)) d)
+    (next ≡ at + 32 * length (positionsIn (suc h) n i s)) × (last ≡ splice at (joined (itemsFrom digestOf (nodeIn bs) h n i s)) d)
 
 joined-cons : (x : List ℕ) (xs : List (List ℕ)) → joined (x ∷ xs) ≡ x ++ joined xs
 unfolding joined
@@ -135,8 +135,8 @@ module _ {h n i s at room half : ℕ} (f : Above h n i s at room half) where
           let some : 0 < length ps =
           peaks-some (suc (h - 1)) (n - half) (middle s half) (rest-few .1) (omega (arith, rest-few, halves .double, half-bounds)) in
           put-behind bs d (positionsIn (suc (h - 1)) half i s) ps long left-same
-          (from-each digestOf bs digest-length (h - 1) half i s l (omega (arith, halves .is)))
-          (ap length e ∙ fold-length digestOf bs digest-length ps some) (p .0) (p .1) e el
+          (from-each digestOf (nodeIn bs) digest-length (node-length bs) (h - 1) half i s l (omega (arith, halves .is)))
+          (ap length e ∙ fold-length digestOf (nodeIn bs) digest-length (node-length bs) ps some) (p .0) (p .1) e el
 
     -- ---- to the right
 
@@ -147,9 +147,9 @@ module _ {h n i s at room half : ℕ} (f : Above h n i s at room half) where
           let near : middle s half + 2 * 2 ^ (h - 1) ≤ 2 ^ 34 = omega (arith, halves .is, half-bounds) in
           (omega (arith, f .fits .0), omega (arith, f .fits .1), omega (arith, halves .is, rest-few), near, k)
 
-      right-each : (bs : List ℕ) → Each 32 (itemsFrom digestOf bs (h - 1) (n - half) (i - half) (middle s half))
+      right-each : (bs : List ℕ) → Each 32 (itemsFrom digestOf (nodeIn bs) (h - 1) (n - half) (i - half) (middle s half))
       right-each bs =
-          from-each digestOf bs digest-length (h - 1) (n - half) (i - half) (middle s half)
+          from-each digestOf (nodeIn bs) digest-length (node-length bs) (h - 1) (n - half) (i - half) (middle s half)
           (omega (arith, f .fits .1)) (omega (arith, halves .is, rest-few))
 
       -- within a peak

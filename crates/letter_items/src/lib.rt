@@ -11,7 +11,7 @@ ghost use Rattle.letter.specs.Items.{itemsOf};
 
 // Writes the items of index i of n leaves over the bytes from a place on. They are written only where they fit wholly.
 pub fn write_items(d: &mut [u8], at: usize, nodes: &[u8], n: u64, i: u64)
-    ensures { λ _. ⌜ now (d .exit) ≡ written at (joined (itemsOf digestOf (now (nodes .entry)) n i)) (now (d .entry)) ⌝ }
+    ensures { λ _. ⌜ now (d .exit) ≡ written at (joined (itemsOf digestOf (nodeIn (now (nodes .entry))) n i)) (now (d .entry)) ⌝ }
 {
     if n <= i || shape::MOST_LEAVES < n {
         return;

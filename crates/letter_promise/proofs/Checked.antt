@@ -11,7 +11,7 @@ use Rattle.shape.specs.Sizes.{leaves}
 use Rattle.letter.specs.Bytes.{indexIn, recordIn}
 use Rattle.letter.specs.Items.{itemCount}
 use Rattle.letter.proofs.Fits.{Fits}
-use Rattle.letter_writer.specs.Outcome.{writeOrder, writeOutcome}
+use Rattle.letter_writer.specs.Outcome.{writeOrder, writeOver, writeOutcome}
 use Rattle.letter_checker.proofs.Accepted.{accepted-of, accepts}
 use Rattle.letter_checker.specs.Outcome.{CheckOutcome, recordBy}
 use Rattle.letter_promise.specs.Promise.{logSize, recordAt, ours, Accepted, EveryLetterAccepted}
@@ -62,7 +62,7 @@ module _ {digest : List ℕ → List ℕ} {rs : List (List ℕ)} {bs : List ℕ}
     -- and is written
     ours-written : (out : List ℕ) → length (ours digest rs bs i) ≤ length out
         → writeOutcome digest (logSize rs) i (recordAt rs i) bs out ≡ writeDone (ours digest rs bs i) out
-    unfolding writeOutcome writeOrder
+    unfolding writeOutcome writeOver writeOrder
     ours-written out r =
         let c = counts k in
         let s = record-short k i p in

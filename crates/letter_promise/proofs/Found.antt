@@ -1,21 +1,23 @@
 -- What the finder finds in a log's own nodes, over any digest function: of an accepted letter, of our letter, and where it says "same".
-use mathlib.Core.Path.{_≡_, refl, sym, ap, ap₂, _∙_}
+use mathlib.Core.Path.{_≡_, sym, ap, ap₂, _∙_}
 use mathlib.Core.List.{List, map}
-use Prim.Native.Nat.{ℕ, _≤_, _<_}
+use Prim.Native.Nat.{ℕ, _*_, _≤_, _<_}
 use native.Mathlib.Omega.{arith}
 use borrow.Author.Needs.{needs}
 use lib.ListN.{length}
+use Rattle.order.specs.Order.{Test, _under_}
 use Rattle.order.proofs.Laws.{passes}
 use Rattle.wire.specs.Numbers.{Bytes}
 use Rattle.wire.specs.Slices.{differ, Each}
 use Rattle.wire.proofs.Differences.{differ-same, differ-other, same-of-differ}
 use Rattle.wire.proofs.Splices.{splice-front}
-use Rattle.shape.specs.Tree.{Tree, OnePlace, inputs}
+use Rattle.shape.specs.Tree.{Tree, inputs}
 use Rattle.shape.specs.Folded.{tree}
 use Rattle.shape.specs.Letter.{way, fill}
-use Rattle.shape.specs.Difference.{decided, Diff, agree, unequal, difference, Shown}
+use Rattle.shape.specs.Difference.{decided, Diff, agree, unequal, difference, ShownAt}
 use Rattle.shape.proofs.Difference.{difference-none}
-use Rattle.shape.proofs.Letters.{letter-bind, letter-place}
+use Rattle.shape.proofs.Letters.{letter-bind}
+use Rattle.nodes.specs.Nodes.{nodeIn}
 use Rattle.log.specs.Outcome.{rootOrder}
 use Rattle.letter.specs.Bytes.{letterBytes, indexIn, recordIn, itemsIn}
 use Rattle.letter.specs.Items.{itemCount, foreign, letterTree, workedRoot}
@@ -23,8 +25,8 @@ use Rattle.letter.proofs.Spelling.{items-length, items-32}
 use Rattle.letter.proofs.Fits.{Fits, pass-fits, fits-pass, fits-spelt}
 use Rattle.letter_writer.specs.Outcome.{ourLetter}
 use Rattle.difference.specs.Outcome.{findDone, roomOrder}
-use Rattle.letter_finder.specs.Outcome.{firstDifference, ownOrder, findOrder, findOutcome}
-use Rattle.letter_finder.proofs.Stages.{find-pass, find-checked, find-same}
+use Rattle.letter_finder.specs.Outcome.{firstDifference, ownOrder, findOrder, findOver, findOutcome}
+use Rattle.letter_finder.proofs.Stages.{find-pass, find-passed, find-same}
 use Rattle.letter_promise.specs.Promise.{logSize, recordAt, ours}
 use Rattle.letter_promise.specs.Promise.{Ends, ends-same, ends-records, ends-pair, EveryAcceptedEnds, EveryOursSame, EverySameOurs}
 use Rattle.letter_promise.proofs.Kept.{Kept, logRoot, ownItems, counts, log-32, own-root, record-short, leads, not-foreign, not-broken, shown}
@@ -38,24 +40,28 @@ module _ {digest : List ℕ → List ℕ} {rs : List (List ℕ)} {bs : List ℕ}
   abbrev Fitting : List ℕ → Type 0
   Fitting letter = Fits digest (logSize rs) n (logRoot k) letter
 
+  -- the test of number 4
+  abbrev short : Test
+  short = length bs under 32 * logSize rs
+
   -- no refusal applies to a letter that passes
   find-done : (letter first second : List ℕ) (i : ℕ) → i ≡ indexIn letter → Fitting letter → 64 ≤ length first → 64 ≤ length second
       → findOutcome digest (logSize rs) bs (recordAt rs i) letter first second
-      ≡ findDone (firstDifference digest n bs letter) (differ (recordAt rs i) (recordIn letter)) first second
-  unfolding findOutcome rootOrder ownOrder roomOrder
+      ≡ findDone (firstDifference digest (nodeIn bs) n letter) (differ (recordAt rs i) (recordIn letter)) first second
+  unfolding findOutcome findOver rootOrder ownOrder roomOrder
   find-done letter first second i e f u v =
       let p : i < n = omega (arith, f .inside) in
       let c = counts k in
       let s = record-short k i p in
-      let o : foreign digest bs (indexIn letter) (recordAt rs i) ≡ 0 =
-      ap (λ (j : ℕ). foreign digest bs j (recordAt rs i)) (sym e) ∙ not-foreign k i p in
+      let o : foreign digest (nodeIn bs) (indexIn letter) (recordAt rs i) ≡ 0 =
+      ap (λ (j : ℕ). foreign digest (nodeIn bs) j (recordAt rs i)) (sym e) ∙ not-foreign k i p in
       let b = not-broken k (indexIn letter) (f .inside) in
       let some = k .log .some in
       let room = k .room in
-      sym (passes _ (findOrder digest (logSize rs) bs (recordAt rs i) letter first second) _
-      {r = findDone (firstDifference digest n bs letter) (differ (recordAt rs i) (recordIn letter)) first second}
+      sym (passes _ (findOrder digest (nodeIn bs) short (logSize rs) (recordAt rs i) letter first second) _
+      {r = findDone (firstDifference digest (nodeIn bs) n letter) (differ (recordAt rs i) (recordIn letter)) first second}
       (rw (c .value))
-      (find-pass digest (logSize rs) bs (recordAt rs i) letter first second (search needs)
+      (find-pass digest (nodeIn bs) (logSize rs) (recordAt rs i) letter first second short (search needs)
       (rw (c .value, own-root k) (fits-pass digest (logSize rs) n (logRoot k) letter f))
       (rw (c .value) (s, (o, (b, tt))))
       (search needs)))
@@ -79,46 +85,39 @@ module _ {digest : List ℕ → List ℕ} {rs : List (List ℕ)} {bs : List ℕ}
     items-each : Each 32 xs
     items-each = items-32 (itemCount n i) letter
 
-    compared : firstDifference digest n bs letter
+    compared : firstDifference digest (nodeIn bs) n letter
         ≡ difference (inputs digest (fill (way n i) (digest (recordAt rs i)) (ownItems k i))) (inputs digest (letterTree digest n letter))
     compared = ap (λ (l : List (List ℕ)). difference l (inputs digest (letterTree digest n letter))) (shown k i (f .inside))
 
-    bound : Shown digest Agree (firstDifference digest n bs letter)
+    bound : ShownAt digest (tree (map digest rs)) (letterTree digest n letter) Agree (firstDifference digest (nodeIn bs) n letter)
     unfolding workedRoot
     bound =
         rw compared
         (letter-bind digest (k .digest-32) (leads k i (f .inside)) (log-32 k) (digest (recordIn letter)) xs (k .digest-32 _) items-each items-many
         (sym (f .rooted)))
 
-    placed : (a b : List ℕ) → firstDifference digest n bs letter ≡ unequal a b
-        → OnePlace digest (tree (map digest rs)) (letterTree digest n letter) a b × (length a ≡ 64) × (length b ≡ 64)
-    placed a b e =
-        letter-place digest (k .digest-32) (leads k i (f .inside)) (log-32 k) (digest (recordIn letter)) xs (k .digest-32 _) items-each items-many
-        a b (sym compared ∙ e)
-
     -- where the items agree, the letter is ours of its record
-    is-ours : Bytes letter → ownItems k i ≡ xs → letter ≡ ourLetter digest (logSize rs) i (recordIn letter) bs
+    is-ours : Bytes letter → ownItems k i ≡ xs → letter ≡ ourLetter digest (logSize rs) i (recordIn letter) (nodeIn bs)
     is-ours b e =
         fits-spelt digest (logSize rs) n (logRoot k) letter b f
         ∙ ap (letterBytes (logSize rs) i (recordIn letter)) (sym e)
         ∙ sym (letter-own k i (f .inside) (recordIn letter))
 
-    ends : (first second : List ℕ) → Bytes letter → (d : Diff) → firstDifference digest n bs letter ≡ d → Shown digest Agree d
+    ends : (first second : List ℕ) → Bytes letter → (d : Diff) → ShownAt digest (tree (map digest rs)) (letterTree digest n letter) Agree d
         → Ends digest rs (logRoot k) bs letter i (recordIn letter) first second (findDone d (differ (recordAt rs i) (recordIn letter)) first second)
-    ends first second b agree e s = elim (decided (recordAt rs i) (recordIn letter)) [
-      | yes q ↦ rw (differ-same _ _ q) (ends-same (is-ours b (s .1) ∙ ap (λ (r : List ℕ). ourLetter digest (logSize rs) i r bs) (sym q)))
+    ends first second b agree s = elim (decided (recordAt rs i) (recordIn letter)) [
+      | yes q ↦ rw (differ-same _ _ q) (ends-same (is-ours b (s .1) ∙ ap (λ (r : List ℕ). ourLetter digest (logSize rs) i r (nodeIn bs)) (sym q)))
       | no q ↦ rw (differ-other _ _ q) (ends-records (λ z. q (sym z)) (sym (s .0)))
     ]
-    ends first second b (unequal x y) e s =
-        let w = placed x y e in
-        rw (splice-front x first, splice-front y second, w .1, w .2) (ends-pair x y (w .1) (w .2) (s .0) (s .1) (w .0))
+    ends first second b (unequal x y) s =
+        rw (splice-front x first, splice-front y second, s .0 .first, s .0 .second) (ends-pair x y (s .0) (s .1))
 
   -- an accepted letter is ours, or the finder gives two strings
   pub accepted-ends : EveryAcceptedEnds digest rs (logRoot k) bs
   accepted-ends letter b i r a first second u v =
       let t = accepted-fits k a in
       rw (find-done letter first second i (t .1) (t .0) u v, t .1, t .2)
-      (ends letter (t .0) first second b (firstDifference digest n bs letter) refl (bound letter (t .0)))
+      (ends letter (t .0) first second b (firstDifference digest (nodeIn bs) n letter) (bound letter (t .0)))
 
   -- of our letter the finder says "same"
   pub ours-same : EveryOursSame digest rs (logRoot k) bs
@@ -127,7 +126,7 @@ module _ {digest : List ℕ → List ℕ} {rs : List (List ℕ)} {bs : List ℕ}
       let e = ours-index k j p in
       let own : ℕ → Tree = λ x. fill (way n x) (digest (recordAt rs x)) (ownItems k x) in
       let t : letterTree digest n l ≡ own (indexIn l) = ours-tree k j p ∙ ap own (sym e) in
-      let agreed : firstDifference digest n bs l ≡ agree =
+      let agreed : firstDifference digest (nodeIn bs) n l ≡ agree =
       compared l (ours-fits k j p)
       ∙ ap (λ (x : Tree). difference (inputs digest x) (inputs digest (letterTree digest n l))) (sym t)
       ∙ difference-none (inputs digest (letterTree digest n l)) in
@@ -136,13 +135,14 @@ module _ {digest : List ℕ → List ℕ} {rs : List (List ℕ)} {bs : List ℕ}
 
   -- where it says "same", the bytes are ours of the record that it was given
   pub same-ours : EverySameOurs digest rs (logRoot k) bs
+  unfolding findOutcome
   same-ours rec letter b first second e =
       let c = counts k .value in
-      let g = find-same digest (logSize rs) bs rec letter first second e in
+      let g = find-same digest (nodeIn bs) (logSize rs) rec letter first second short e in
       let f : Fitting letter =
       pass-fits digest (logSize rs) n (logRoot k) letter
-      (rw (c, own-root k) at (find-checked digest (logSize rs) bs rec letter first second (g .0))) in
-      let d : firstDifference digest n bs letter ≡ agree = rw c at (g .1) in
+      (rw (c, own-root k) at (find-passed digest (nodeIn bs) (logSize rs) rec letter first second short (g .0) .checked)) in
+      let d : firstDifference digest (nodeIn bs) n letter ≡ agree = rw c at (g .1) in
       let a : Agree letter f = rw d at (bound letter f) in
       is-ours letter f b (a .1)
-      ∙ ap (λ (r : List ℕ). ourLetter digest (logSize rs) (indexIn letter) r bs) (sym (same-of-differ rec (recordIn letter) (g .2)))
+      ∙ ap (λ (r : List ℕ). ourLetter digest (logSize rs) (indexIn letter) r (nodeIn bs)) (sym (same-of-differ rec (recordIn letter) (g .2)))

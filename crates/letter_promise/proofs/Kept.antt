@@ -59,7 +59,7 @@ module _ {digest : List ℕ → List ℕ} {rs : List (List ℕ)} {bs : List ℕ}
   root-length = root-32 digest (k .digest-32) (tree (map digest rs)) log-32
 
   -- the root of the nodes is the tree's
-  pub own-root : ownRoot digest (length rs) bs ≡ logRoot
+  pub own-root : ownRoot digest (nodeIn bs) (length rs) ≡ logRoot
   own-root =
       rw same-number at (root-read digest (nodeIn bs) (map digest rs) (omega (arith, same-number, k .log .some)) (k .holds))
 
@@ -76,7 +76,7 @@ module _ {digest : List ℕ → List ℕ} {rs : List (List ℕ)} {bs : List ℕ}
     leads = rw (same-number, leaf-digest digest rs i p) at (way-leads (map digest rs) i (omega (arith, same-number)))
 
     -- the log's own record is the leaf at its place
-    pub not-foreign : foreign digest bs i (recordAt rs i) ≡ 0
+    pub not-foreign : foreign digest (nodeIn bs) i (recordAt rs i) ≡ 0
     unfolding foreign
     not-foreign =
         let e : positionAnswer i .value ≡ sizeOf i = ap (λ (a : Answer). a .value) (position-answer i (omega (arith, k .log .few))) in

@@ -9,6 +9,7 @@ use Rattle.shape.specs.Tree.{root}
 use Rattle.shape.specs.Letter.{way, fill}
 use Rattle.shape.proofs.Letters.{items-length, items-32, complete}
 use Rattle.shape.specs.Sizes.{leaves}
+use Rattle.nodes.specs.Nodes.{nodeIn}
 use Rattle.letter.specs.Bytes.{letterBytes, sizeIn, indexIn, statedIn, recordIn, itemsIn}
 use Rattle.letter.specs.Items.{itemCount, itemsOf, letterTree, workedRoot}
 use Rattle.letter.specs.Checking.{exactLength}
@@ -27,14 +28,14 @@ module _ {digest : List ℕ → List ℕ} {rs : List (List ℕ)} {bs : List ℕ}
   own-32 = items-32 digest (k .digest-32) (leads k i p) (log-32 k)
 
   -- what the nodes give for the items are the items of the tree
-  items-own : itemsOf digest bs (leaves (logSize rs)) i ≡ ownItems k i
+  items-own : itemsOf digest (nodeIn bs) (leaves (logSize rs)) i ≡ ownItems k i
   items-own =
       let m = same-number k in
-      ap (λ (n : ℕ). itemsOf digest bs n i) (counts k .value)
-      ∙ (rw m at (items-of-log digest bs (map digest rs) i (omega arith) (omega (arith, k .log .few)) (k .holds)))
+      ap (λ (n : ℕ). itemsOf digest (nodeIn bs) n i) (counts k .value)
+      ∙ (rw m at (items-of-log digest (nodeIn bs) (map digest rs) i (omega arith) (omega (arith, k .log .few)) (k .holds)))
 
   -- so our letter for a record and the index i has them, whatever stands in the buffer beyond the nodes
-  pub letter-own : (rec : List ℕ) → ourLetter digest (logSize rs) i rec bs ≡ letterBytes (logSize rs) i rec (ownItems k i)
+  pub letter-own : (rec : List ℕ) → ourLetter digest (logSize rs) i rec (nodeIn bs) ≡ letterBytes (logSize rs) i rec (ownItems k i)
   unfolding ourLetter
   letter-own rec = ap (letterBytes (logSize rs) i rec) items-own
 

@@ -1,24 +1,25 @@
 -- What writer, checker and finder promise together, of every log: the letters that we write are accepted; and bytes that are accepted are our
 -- letter, or the finder gives two different strings with one digest, one hashed in building the log or its root, the other in checking those bytes,
 -- at the same place in the tree.
--- The statements stand at the end, for Blake3; above them is what they say, for any digest function. They speak of the outcomes that the contracts of
--- the public calls cite, so they hold of the code.
+-- The statements stand at the end, above them what they say, all over any digest function. They hold of every one whose digests have 32 bytes; the
+-- theorems are these for Blake3. They speak of the outcomes that the contracts of the public calls cite, so they hold of the code.
 -- Of nodes that are not the log's, or another record than its own, one thing is claimed: what the finder names does collide (`found-named`).
 use mathlib.Core.Logic.{_≢_}
 use mathlib.Core.Path.{_≡_}
-use mathlib.Core.List.{List, [], _++_, map}
-use Prim.Native.Nat.{ℕ, _≤_, _<_}
+use mathlib.Core.List.{List, [], _++_, map, Perm}
+use Prim.Native.Nat.{ℕ, _*_, _≤_, _<_}
 use lib.ListN.{length, getD, drop}
 use Rattle.wire.specs.Limits.{mostLeaves}
-use Rattle.digest.specs.Digest.{digestOf}
 use Rattle.wire.specs.Numbers.{Bytes}
 use Rattle.wire.specs.Writers.{writeDone}
 use Rattle.shape.specs.Sizes.{sizeOf}
-use Rattle.shape.specs.Tree.{OnePlace}
+use Rattle.shape.specs.Tree.{places, hashedAt, OnePlace}
+use Rattle.shape.specs.Difference.{Collision}
 use Rattle.shape.specs.Folded.{tree}
-use Rattle.nodes.specs.Nodes.{Begins}
-use Rattle.log.specs.Appends.{Short}
+use Rattle.nodes.specs.Nodes.{nodeIn, Begins}
+use Rattle.log.specs.Appends.{Short, run, empty}
 use Rattle.log.specs.Outcome.{rootOutcome}
+use Rattle.log.specs.Hashed.{builtHashed}
 use Rattle.letter.specs.Bytes.{indexIn, recordIn}
 use Rattle.letter.specs.Items.{letterTree}
 use Rattle.letter_writer.specs.Outcome.{ourLetter, writeOutcome}
@@ -42,7 +43,7 @@ recordAt rs i = getD rs i []
 
 -- our letter for index i, with the log's nodes in the buffer bs
 abbrev pub ours : (List ℕ → List ℕ) → List (List ℕ) → List ℕ → ℕ → List ℕ
-ours digest rs bs i = ourLetter digest (logSize rs) i (recordAt rs i) bs
+ours digest rs bs i = ourLetter digest (logSize rs) i (recordAt rs i) (nodeIn bs)
 
 -- a log, its root, and a buffer with its nodes
 module _ (digest : List ℕ → List ℕ) (rs : List (List ℕ)) (root bs : List ℕ) where
@@ -66,9 +67,8 @@ module _ (digest : List ℕ → List ℕ) (rs : List (List ℕ)) (root bs : List
     ends-records : r ≢ recordAt rs i → digest r ≡ digest (recordAt rs i)
         → Ends letter i r first second (record { number = 0; finding = Records; first = first; second = second })
     -- the first 64 bytes of the two buffers are a and b, which differ and have one digest; for one place in the folded tree a is what building the
-    -- log or its root hashes there, and b what checking those bytes hashes there; no other byte changed
-    ends-pair : (a b : List ℕ) → length a ≡ 64 → length b ≡ 64 → a ≢ b → digest a ≡ digest b
-        → OnePlace digest (tree (map digest rs)) (letterTree digest (length rs) letter) a b
+    -- log or its root hashes there (`places-built`), and b what checking those bytes hashes there; no other byte changed
+    ends-pair : (a b : List ℕ) → Collision digest 64 a b → OnePlace digest (tree (map digest rs)) (letterTree digest (length rs) letter) a b
         → Ends letter i r first second (record { number = 0; finding = Pair; first = a ++ drop 64 first; second = b ++ drop 64 second })
 
   -- for every index, with room in the output
@@ -95,7 +95,7 @@ module _ (digest : List ℕ → List ℕ) (rs : List (List ℕ)) (root bs : List
   EverySameOurs =
       (rec letter : List ℕ) → Bytes letter → (first second : List ℕ)
       → findOutcome digest (logSize rs) bs rec letter first second .finding ≡ Same
-      → letter ≡ ourLetter digest (logSize rs) (indexIn letter) rec bs
+      → letter ≡ ourLetter digest (logSize rs) (indexIn letter) rec (nodeIn bs)
 
 -- ---- whatever nodes, record, bytes and buffers the finder is given
 
@@ -110,31 +110,51 @@ module _ (digest : List ℕ → List ℕ) (rec letter first second : List ℕ) w
     named-records : rec ≢ recordIn letter → digest rec ≡ digest (recordIn letter)
         → Named (record { number = 0; finding = Records; first = first; second = second })
     -- the first 64 bytes of the two buffers differ and have one digest; no other byte changed
-    named-pair : (a b : List ℕ) → length a ≡ 64 → length b ≡ 64 → a ≢ b → digest a ≡ digest b
+    named-pair : (a b : List ℕ) → Collision digest 64 a b
         → Named (record { number = 0; finding = Pair; first = a ++ drop 64 first; second = b ++ drop 64 second })
 
--- ---- the statements, for Blake3
+-- ---- the statements
 
--- of every log, with its size, any buffer that begins with its nodes, and its root, which is what the log's own call answers (`root-of-log`)
-abbrev pub OfEveryLog : (List (List ℕ) → List ℕ → List ℕ → Type 0) → Type 0
-OfEveryLog Says = (rs : List (List ℕ)) → Log rs → (bs : List ℕ) → Begins digestOf bs rs → Says rs (rootOutcome digestOf (logSize rs) bs .root) bs
+module _ (digest : List ℕ → List ℕ) where
+  -- of every log, with its size, any buffer that begins with its nodes, and its root, which is what the log's own call answers (`root-of-log`)
+  abbrev pub OfEveryLog : (List (List ℕ) → List ℕ → List ℕ → Type 0) → Type 0
+  OfEveryLog Says = (rs : List (List ℕ)) → Log rs → (bs : List ℕ) → Begins digest bs rs → Says rs (rootOutcome digest (logSize rs) bs .root) bs
 
--- `letter-accepted`: our letters are accepted
-abbrev pub LetterAccepted : Type 0
-LetterAccepted = OfEveryLog (EveryLetterAccepted digestOf)
+  -- `letter-accepted`: our letters are accepted
+  abbrev pub LetterAccepted : Type 0
+  LetterAccepted = OfEveryLog (EveryLetterAccepted digest)
 
--- `accepted-is-ours`: bytes that are accepted are our letter, or the finder gives two strings
-abbrev pub AcceptedIsOurs : Type 0
-AcceptedIsOurs = OfEveryLog (EveryAcceptedEnds digestOf)
+  -- `accepted-is-ours`: bytes that are accepted are our letter, or the finder gives two strings
+  abbrev pub AcceptedIsOurs : Type 0
+  AcceptedIsOurs = OfEveryLog (EveryAcceptedEnds digest)
 
--- `ours-is-same`, `same-is-ours`: the other direction
-abbrev pub OursIsSame : Type 0
-OursIsSame = OfEveryLog (EveryOursSame digestOf)
+  -- `ours-is-same`, `same-is-ours`: the other direction
+  abbrev pub OursIsSame : Type 0
+  OursIsSame = OfEveryLog (EveryOursSame digest)
 
-abbrev pub SameIsOurs : Type 0
-SameIsOurs = OfEveryLog (EverySameOurs digestOf)
+  abbrev pub SameIsOurs : Type 0
+  SameIsOurs = OfEveryLog (EverySameOurs digest)
 
--- `found-named`: what the finder names does collide, whatever it was given
-abbrev pub FoundNamed : Type 0
-FoundNamed =
-    (size : ℕ) (bs rec letter first second : List ℕ) → Named digestOf rec letter first second (findOutcome digestOf size bs rec letter first second)
+  -- `found-named`: what the finder names does collide, whatever it was given
+  abbrev pub FoundNamed : Type 0
+  FoundNamed =
+      (size : ℕ) (bs rec letter first second : List ℕ) → Named digest rec letter first second (findOutcome digest size bs rec letter first second)
+
+  -- `one-letter`: a log has one letter for an index, whatever stands in a buffer beyond its nodes
+  abbrev pub OneLetter : Type 0
+  OneLetter =
+      (rs : List (List ℕ)) (bs cs : List ℕ) → Log rs → Begins digest bs rs → Begins digest cs rs
+      → (i : ℕ) → i < length rs → ours digest rs bs i ≡ ours digest rs cs i
+
+  -- `appends-build`: any run of appends to an empty log, refused ones among them, that took a record leaves such a log, its size, and such a buffer
+  abbrev pub AppendsBuild : Type 0
+  AppendsBuild =
+      (bs : List ℕ) (rs : List (List ℕ)) → let s = run digest (empty bs) rs in
+      1 ≤ length (s .taken) → Log (s .taken) × Begins digest (s .bytes) (s .taken) × (s .size ≡ logSize (s .taken))
+
+  -- `places-built`: what appending a log's records one by one to an empty log with room, and then the root, hash is each record, and the string at
+  -- each place of its folded tree, each as often
+  abbrev pub PlacesBuilt : Type 0
+  PlacesBuilt =
+      (rs : List (List ℕ)) → Log rs → (bs : List ℕ) → 32 * logSize rs ≤ length bs → let t = tree (map digest rs) in
+      Perm (builtHashed digest bs rs) (rs ++ map (hashedAt digest t) (places t))

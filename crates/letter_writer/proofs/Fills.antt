@@ -6,6 +6,7 @@ use native.Mathlib.Omega.{arith}
 use lib.ListN.{length, length-append}
 use Rattle.digest.specs.Digest.{digestOf, digest-length}
 use borrow.Author.Needs.{needs}
+use Rattle.order.specs.Order.{_under_}
 use Rattle.order.proofs.Laws.{Passes}
 use Rattle.wire.specs.Numbers.{be}
 use Rattle.wire.specs.Slices.{splice, written, joined}
@@ -16,6 +17,8 @@ use Rattle.wire.proofs.Splices.{written-fits, written-next}
 use Rattle.wire.proofs.Writers.{write-done}
 use Rattle.shape.specs.Sizes.{leaves}
 use Rattle.shape.proofs.Counting.{Counts}
+use Rattle.nodes.specs.Nodes.{nodeIn}
+use Rattle.nodes.proofs.Joined.{node-length}
 use Rattle.letter.specs.Bytes.{letterBytes}
 use Rattle.letter.specs.Items.{itemCount, itemsOf, foreign}
 use Rattle.letter.proofs.ItemsOf.{items-bytes}
@@ -49,27 +52,29 @@ module _ (size index : ℕ) (rec : List ℕ) (items : List (List ℕ)) where
 
 -- our letter, for an index of a log
 module _ {size n : ℕ} (index : ℕ) (rec bs : List ℕ) (k : Counts size n) (h : index < n) where
-  pub our-length : length (ourLetter digestOf size index rec bs) ≡ 20 + length rec + 32 * itemCount n index
+  pub our-length : length (ourLetter digestOf size index rec (nodeIn bs)) ≡ 20 + length rec + 32 * itemCount n index
   unfolding ourLetter
   our-length =
-      letter-bytes size index rec (itemsOf digestOf bs (leaves size) index)
-      ∙ ap (λ (m : ℕ). 20 + length rec + length (joined (itemsOf digestOf bs m index))) (k .value)
-      ∙ ap (λ (m : ℕ). 20 + length rec + m) (items-bytes digestOf bs digest-length n index h (k .most))
+      letter-bytes size index rec (itemsOf digestOf (nodeIn bs) (leaves size) index)
+      ∙ ap (λ (m : ℕ). 20 + length rec + length (joined (itemsOf digestOf (nodeIn bs) m index))) (k .value)
+      ∙ ap (λ (m : ℕ). 20 + length rec + m) (items-bytes digestOf (nodeIn bs) digest-length (node-length bs) n index h (k .most))
 
   pub letter-done : (out : List ℕ) {l₁ l₂ l₃ l₄ l₅ : List ℕ} (m : ℕ) → m ≡ 20 + length rec + 32 * itemCount n index → m ≤ length out
       → l₁ ≡ written 0 (be 8 size) out → l₂ ≡ written 8 (be 8 index) l₁ → l₃ ≡ written 16 (be 4 (length rec)) l₂
-      → l₄ ≡ written 20 rec l₃ → l₅ ≡ written (20 + length rec) (joined (itemsOf digestOf bs n index)) l₄
-      → wrote (record { number = 0; length = m }) l₅ ≡ writeDone (ourLetter digestOf size index rec bs) out
+      → l₄ ≡ written 20 rec l₃ → l₅ ≡ written (20 + length rec) (joined (itemsOf digestOf (nodeIn bs) n index)) l₄
+      → wrote (record { number = 0; length = m }) l₅ ≡ writeDone (ourLetter digestOf size index rec (nodeIn bs)) out
   unfolding ourLetter
   letter-done out {l₅ = l₅} m e fits e₁ e₂ e₃ e₄ e₅ =
-      let b : length (joined (itemsOf digestOf bs n index)) ≡ 32 * itemCount n index = items-bytes digestOf bs digest-length n index h (k .most) in
-      write-done (ourLetter digestOf size index rec bs) out l₅ m (e ∙ sym our-length)
-      (letter-filled size index rec (itemsOf digestOf bs n index) out (omega arith) e₁ e₂ e₃ e₄ e₅
-      ∙ ap (λ (x : ℕ). splice 0 (letterBytes size index rec (itemsOf digestOf bs x index)) out) (sym (k .value)))
+      let b : length (joined (itemsOf digestOf (nodeIn bs) n index)) ≡ 32 * itemCount n index =
+      items-bytes digestOf (nodeIn bs) digest-length (node-length bs) n index h (k .most) in
+      write-done (ourLetter digestOf size index rec (nodeIn bs)) out l₅ m (e ∙ sym our-length)
+      (letter-filled size index rec (itemsOf digestOf (nodeIn bs) n index) out (omega arith) e₁ e₂ e₃ e₄ e₅
+      ∙ ap (λ (x : ℕ). splice 0 (letterBytes size index rec (itemsOf digestOf (nodeIn bs) x index)) out) (sym (k .value)))
 
   -- no refusal applies
-  pub none-applies : (out : List ℕ) → length rec ≤ 16384 → 32 * size ≤ length bs → itemCount n index ≤ 32 → foreign digestOf bs index rec ≡ 0
-      → 20 + length rec + 32 * itemCount n index ≤ length out → Passes (writeOrder digestOf size index rec bs out)
+  pub none-applies : (out : List ℕ) → length rec ≤ 16384 → 32 * size ≤ length bs → itemCount n index ≤ 32 → foreign digestOf (nodeIn bs) index rec ≡ 0
+      → 20 + length rec + 32 * itemCount n index ≤ length out
+      → Passes (writeOrder digestOf (nodeIn bs) (length bs under 32 * size) size index rec out)
   unfolding writeOrder
   none-applies out short long few own room =
       let e : leaves size ≡ n = k .value in

@@ -65,12 +65,13 @@ module _ (node left : ℕ → List ℕ) (s : ℕ) (x : List ℕ) where
       sym (climbs (trailingOnes n) 0 (λ i l. f i (omega arith)) ∙ ap (λ (i : ℕ). ups left i x) (zero-add (trailingOnes n)))
       ∙ ap (λ (p : ℕ). climb digestOf node (trailingOnes n) 0 p x) (add-zero s ∙ e)
 
--- each new node has 32 bytes
-climb-sized : (node : ℕ → List ℕ) (k j p : ℕ) (x : List ℕ) → length x ≡ 32 → Each 32 (climb digestOf node k j p x)
-unfolding climb
-climb-sized node zero j p x e = (e, tt)
-climb-sized node (suc k) j p x e = (e, climb-sized node k (suc j) (suc p) _ (digest-length (node (p - (2 ^ suc j - 1)) ++ x)))
+-- each new node has 32 bytes, whatever the digest function
+module _ (digest : List ℕ → List ℕ) (digest-32 : (x : List ℕ) → length (digest x) ≡ 32) where
+  climb-sized : (node : ℕ → List ℕ) (k j p : ℕ) (x : List ℕ) → length x ≡ 32 → Each 32 (climb digest node k j p x)
+  unfolding climb
+  climb-sized node zero j p x e = (e, tt)
+  climb-sized node (suc k) j p x e = (e, climb-sized node k (suc j) (suc p) _ (digest-32 (node (p - (2 ^ suc j - 1)) ++ x)))
 
-pub new-sized : (node : ℕ → List ℕ) (n : ℕ) (x : List ℕ) → length x ≡ 32 → Each 32 (newNodes digestOf node n x)
-unfolding newNodes
-new-sized node n x e = climb-sized node (trailingOnes n) 0 (sizeOf n) x e
+  pub new-sized : (node : ℕ → List ℕ) (n : ℕ) (x : List ℕ) → length x ≡ 32 → Each 32 (newNodes digest node n x)
+  unfolding newNodes
+  new-sized node n x e = climb-sized node (trailingOnes n) 0 (sizeOf n) x e

@@ -15,7 +15,7 @@ use Rattle.shape.proofs.Heights.{height-holds}
 use Rattle.shape.proofs.Appends.{new-length}
 use Rattle.nodes.specs.Nodes.{nodeIn, foldFrom}
 use Rattle.log.specs.Steps.{Lefts, leftIn, ups}
-use Rattle.log.specs.Outcome.{appended, appendDone, rooted, rootDone}
+use Rattle.log.specs.Outcome.{appended, appendDone, putNodes, rooted, rootDone}
 use Rattle.log.specs.declared.Appended.{Appended}
 use Rattle.log.specs.declared.Rooted.{Rooted}
 use Rattle.wire.proofs.Joined.{joined-length, joined-one}
@@ -59,14 +59,15 @@ module _ {size n m : ℕ} (rec bs : List ℕ) (k : Counts size n) (e : m ≡ tra
   pub new-fits : length (splice (32 * size) (joined (newNodes digestOf (nodeIn bs) (leaves size) (digestOf rec))) bs) ≡ length bs
   new-fits =
       let xs = newNodes digestOf (nodeIn bs) (leaves size) (digestOf rec) in
-      let l : length (joined xs) ≡ 32 * length xs = joined-length xs (new-sized (nodeIn bs) (leaves size) (digestOf rec) (digest-length rec)) in
+      let l : length (joined xs) ≡ 32 * length xs =
+      joined-length xs (new-sized digestOf digest-length (nodeIn bs) (leaves size) (digestOf rec) (digest-length rec)) in
       let c : length xs ≡ 1 + m =
       new-length digestOf (nodeIn bs) (leaves size) (digestOf rec) ∙ ap (λ (x : ℕ). 1 + x) (ap trailingOnes (k .value) ∙ sym e) in
       splice-length (32 * size) (joined xs) bs (omega arith)
 
   pub append-done : {r : Appended} {last : List ℕ} → r .number ≡ 0 → r .size ≡ size + (1 + m) → r .hashes ≡ 1 + m
       → last ≡ splice (32 * size) (joined (newNodes digestOf (nodeIn bs) (leaves size) (digestOf rec))) bs
-      → appended r last ≡ appendDone digestOf size rec bs
+      → appended r last ≡ appendDone digestOf (nodeIn bs) (putNodes size bs) size rec
   unfolding appendDone
   append-done {r} {last} a b c d =
       let s : r .size ≡ sizeOf (suc (leaves size)) = b ∙ sym (grown-size k e) in
@@ -75,7 +76,7 @@ module _ {size n m : ℕ} (rec bs : List ℕ) (k : Counts size n) (e : m ≡ tra
 
 -- the peaks folded
 pub root-done : {size n : ℕ} (bs : List ℕ) → Counts size n → 0 < n → {r : Rooted} → r .number ≡ 0 → r .root .bytes ≡ foldFrom digestOf bs n 0
-    → rooted r ≡ rootDone digestOf size bs
+    → rooted r ≡ rootDone digestOf (nodeIn bs) size
 unfolding rootDone peaks
 root-done {n = n} bs k some {r} a b =
     let d : r .root .bytes ≡ fold digestOf (nodeIn bs) (peaks (leaves _)) =

@@ -3,6 +3,8 @@ mod Climbs
 mod Writing
 mod Done
 pub mod Only
+mod Told
 pub mod Grown
 pub mod Appends
+pub mod Hashed
 pub mod Local

@@ -1,58 +1,69 @@
--- What an append does depends on the buffer's length and on its bytes below 32 × size only.
-use mathlib.Core.Path.{_≡_, refl, sym, ap, _∙_}
+-- Bytes beyond the size mean nothing, over any digest function: what an append does depends on the buffer's length and on its bytes below 32 × size
+-- only, and the root on these bytes alone.
+use mathlib.Core.Path.{_≡_, sym, ap, _∙_}
 use mathlib.Core.Logic.{by-cases, _≢_}
-use mathlib.Core.List.{List, []}
-use Prim.Native.Nat.{ℕ, suc, _*_, _≤_, _<_}
+use mathlib.Core.List.{List, [], _∷_}
+use Prim.Native.Nat.{ℕ, suc, _*_, _<_}
 use native.Mathlib.Decide.{ℕ-discrete}
 use native.Mathlib.Omega.{arith}
 use lib.ListN.{length, take}
-use Rattle.digest.specs.Digest.{digestOf}
-use Rattle.order.specs.Order.{firstNumber}
-use Rattle.order.proofs.Laws.{Passes, accepted, refusal, number-is}
-use Rattle.wire.specs.Slices.{part, splice, joined}
-use Rattle.wire.proofs.Parts.{part-take}
+use Rattle.order.specs.Order.{Test, _if_, _is_, _under_, verdict, firstNumber}
+use Rattle.order.proofs.Laws.{Passes, verdict-done, verdict-test}
+use Rattle.wire.specs.Slices.{splice, joined}
 use Rattle.wire.proofs.Splices.{splice-none}
+use Rattle.shape.specs.Sizes.{sizeOf, countAnswer, leaves}
 use Rattle.shape.specs.Nodes.{newNodes}
-use Rattle.shape.proofs.Sizes.{size-mono}
 use Rattle.shape.proofs.Appends.{new-local}
-use Rattle.nodes.specs.Nodes.{nodeIn}
+use Rattle.shape.proofs.Inside.{peaks-local}
 use Rattle.shape.proofs.Counting.{counts-known}
-use Rattle.log.specs.Outcome.{AppendOutcome, appendRefused, appendOrder, appendDone, appendOutcome}
-use Rattle.shape.specs.Sizes.{leaves}
+use Rattle.nodes.specs.Nodes.{nodeIn}
+use Rattle.nodes.proofs.Local.{node-local, short-local}
+use Rattle.log.specs.Outcome.{AppendOutcome, appendRefused, appendOrder, appendDone, putNodes, appendOutcome}
+use Rattle.log.specs.Outcome.{rootRefused, rootOrder, rootDone, rootOver, rootOutcome}
+use Rattle.log.proofs.Told.{append-number, append-refused, append-pass}
+
+-- ---- append
 
 -- two appends that answer alike and write the same bytes
-pub record Alike (size : ℕ) (rec bs cs : List ℕ) : Type 0 where
-  pub number : appendOutcome digestOf size rec bs .number ≡ appendOutcome digestOf size rec cs .number
-  pub grown : appendOutcome digestOf size rec bs .size ≡ appendOutcome digestOf size rec cs .size
-  pub hashes : appendOutcome digestOf size rec bs .hashes ≡ appendOutcome digestOf size rec cs .hashes
+pub record Alike (digest : List ℕ → List ℕ) (size : ℕ) (rec bs cs : List ℕ) : Type 0 where
+  pub number : appendOutcome digest size rec bs .number ≡ appendOutcome digest size rec cs .number
+  pub grown : appendOutcome digest size rec bs .size ≡ appendOutcome digest size rec cs .size
+  pub hashes : appendOutcome digest size rec bs .hashes ≡ appendOutcome digest size rec cs .hashes
   pub new : List ℕ
-  pub one : appendOutcome digestOf size rec bs .bytes ≡ splice (32 * size) new bs
-  pub other : appendOutcome digestOf size rec cs .bytes ≡ splice (32 * size) new cs
+  pub one : appendOutcome digest size rec bs .bytes ≡ splice (32 * size) new bs
+  pub other : appendOutcome digest size rec cs .bytes ≡ splice (32 * size) new cs
 
-module _ (size : ℕ) (rec bs cs : List ℕ) (l : length bs ≡ length cs) (same : take (32 * size) bs ≡ take (32 * size) cs) where
-  one-order : appendOrder size rec bs ≡ appendOrder size rec cs
-  unfolding appendOrder
-  one-order = rw l
+module _ (digest : List ℕ → List ℕ) (size : ℕ) (rec bs cs : List ℕ) (l : length bs ≡ length cs)
+    (same : take (32 * size) bs ≡ take (32 * size) cs) where
+  abbrev outcome : List ℕ → AppendOutcome
+  outcome xs = appendOutcome digest size rec xs
 
-  -- the number of an append is that of its order
-  number-first : (xs : List ℕ) → appendOutcome digestOf size rec xs .number ≡ firstNumber (appendOrder size rec xs)
-  unfolding appendOutcome appendDone
-  number-first xs =
-      number-is (λ (x : AppendOutcome). x .number) (appendRefused size xs) (appendOrder size rec xs) (appendDone digestOf size rec xs) (λ m. refl) refl
-      {r = appendOutcome digestOf size rec xs} refl
+  abbrev short : List ℕ → Test
+  short xs = length xs under 32 * sizeOf (suc (leaves size))
 
-  one-number : appendOutcome digestOf size rec bs .number ≡ appendOutcome digestOf size rec cs .number
-  one-number = number-first bs ∙ ap firstNumber one-order ∙ sym (number-first cs)
+  -- what the number tells, of the nodes in a buffer
+  number-first : (xs : List ℕ) → outcome xs .number ≡ firstNumber (appendOrder (short xs) size rec)
+  unfolding appendOutcome
+  number-first xs = append-number digest (nodeIn xs) (short xs) (putNodes size xs) size rec xs
+
+  refused : (xs : List ℕ) → outcome xs .number ≢ 0 → outcome xs ≡ appendRefused size xs (outcome xs .number)
+  unfolding appendOutcome
+  refused xs z = append-refused digest (nodeIn xs) (short xs) (putNodes size xs) size rec xs z
+
+  passed : (xs : List ℕ) → outcome xs .number ≡ 0
+      → Passes (appendOrder (short xs) size rec) × (outcome xs ≡ appendDone digest (nodeIn xs) (putNodes size xs) size rec)
+  unfolding appendOutcome
+  passed xs z = append-pass digest (nodeIn xs) (short xs) (putNodes size xs) size rec xs z
+
+  one-number : outcome bs .number ≡ outcome cs .number
+  one-number =
+      number-first bs ∙ ap (λ (k : ℕ). firstNumber (appendOrder (k under 32 * sizeOf (suc (leaves size))) size rec)) l ∙ sym (number-first cs)
 
   -- refused: nothing is written
-  left-alike : appendOutcome digestOf size rec bs .number ≢ 0 → Alike size rec bs cs
-  unfolding appendOutcome appendDone
+  left-alike : outcome bs .number ≢ 0 → Alike digest size rec bs cs
   left-alike z =
-      let e : (xs : List ℕ) → appendOutcome digestOf size rec xs .number ≢ 0 → appendOutcome digestOf size rec xs ≡ appendRefused size xs (appendOutcome digestOf size rec xs .number) =
-      λ xs y. refusal (λ (x : AppendOutcome). x .number) (appendRefused size xs) (appendOrder size rec xs) (appendDone digestOf size rec xs) (λ m. refl) refl
-      {r = appendOutcome digestOf size rec xs} refl y in
-      let p = e bs z in
-      let q = e cs (λ h. z (one-number ∙ h)) in
+      let p = refused bs z in
+      let q = refused cs (λ h. z (one-number ∙ h)) in
       record {
         number = one-number;
         grown = ap (λ (x : AppendOutcome). x .size) p ∙ sym (ap (λ (x : AppendOutcome). x .size) q);
@@ -62,38 +73,55 @@ module _ (size : ℕ) (rec bs cs : List ℕ) (l : length bs ≡ length cs) (same
         other = ap (λ (x : AppendOutcome). x .bytes) q ∙ sym (splice-none (32 * size) cs);
       }
 
-  -- the same nodes below the size
-  one-node : 32 * size ≤ length bs → (p : ℕ) → p < size → nodeIn bs p ≡ nodeIn cs p
-  unfolding nodeIn
-  one-node room p h =
-      sym (part-take (32 * p) 32 (32 * size) bs (omega arith) room)
-      ∙ ap (part (32 * p) 32) same
-      ∙ part-take (32 * p) 32 (32 * size) cs (omega arith) (omega arith)
-
   -- done: the same new nodes
-  done-alike : appendOutcome digestOf size rec bs .number ≡ 0 → Alike size rec bs cs
-  unfolding appendOutcome appendOrder appendDone
+  done-alike : outcome bs .number ≡ 0 → Alike digest size rec bs cs
+  unfolding appendOrder appendDone
   done-alike z =
-      let e : (xs : List ℕ) → appendOutcome digestOf size rec xs .number ≡ 0 → Passes (appendOrder size rec xs) × (appendOutcome digestOf size rec xs ≡ appendDone digestOf size rec xs) =
-      λ xs y. accepted (λ (x : AppendOutcome). x .number) (appendRefused size xs) (appendOrder size rec xs) (appendDone digestOf size rec xs) (λ m. refl) refl
-      {r = appendOutcome digestOf size rec xs} refl tt y in
-      let p = e bs z .1 in
-      let q = e cs (sym one-number ∙ z) .1 in
-      let t = e bs z .0 in
+      let p = passed bs z .1 in
+      let q = passed cs (sym one-number ∙ z) .1 in
+      let t = passed bs z .0 in
       let k = counts-known size (t .0) in
       let n = leaves size in
-      let room : 32 * size ≤ length bs = omega (arith, t .1 .1 .1 .0, size-mono n (suc n) (omega arith), k .is) in
-      let w : newNodes digestOf (nodeIn bs) n (digestOf rec) ≡ newNodes digestOf (nodeIn cs) n (digestOf rec) =
-      new-local digestOf (nodeIn bs) (nodeIn cs) n (digestOf rec) (λ i h. one-node room i (omega (arith, k .is))) in
+      let w : newNodes digest (nodeIn bs) n (digest rec) ≡ newNodes digest (nodeIn cs) n (digest rec) =
+      new-local digest (nodeIn bs) (nodeIn cs) n (digest rec) (λ i h. node-local size bs cs same i (omega (arith, k .is))) in
       record {
         number = one-number;
         grown = ap (λ (x : AppendOutcome). x .size) p ∙ sym (ap (λ (x : AppendOutcome). x .size) q);
         hashes = ap (λ (x : AppendOutcome). x .hashes) p ∙ sym (ap (λ (x : AppendOutcome). x .hashes) q);
-        new = joined (newNodes digestOf (nodeIn bs) n (digestOf rec));
+        new = joined (newNodes digest (nodeIn bs) n (digest rec));
         one = ap (λ (x : AppendOutcome). x .bytes) p;
         other = ap (λ (x : AppendOutcome). x .bytes) q ∙ ap (λ (x : List (List ℕ)). splice (32 * size) (joined x) cs) (sym w);
       }
 
   -- two buffers of one length that agree below 32 × size
-  pub append-local : Alike size rec bs cs
-  append-local = by-cases (ℕ-discrete (appendOutcome digestOf size rec bs .number) 0) done-alike left-alike
+  pub append-local : Alike digest size rec bs cs
+  append-local = by-cases (ℕ-discrete (outcome bs .number) 0) done-alike left-alike
+
+-- ---- root
+
+-- any nodes that agree below the size
+pub root-over-local : (digest : List ℕ → List ℕ) (f g : ℕ → List ℕ) (short : Test) (size : ℕ) → ((p : ℕ) → p < size → f p ≡ g p)
+    → rootOver digest f short size ≡ rootOver digest g short size
+unfolding rootOver rootOrder rootDone
+root-over-local digest f g short size e =
+    verdict-done rootRefused (rootOrder short size)
+    (λ p.
+    let k = counts-known size (p .0) in
+    let d = peaks-local digest f g (leaves size) (λ q h. e q (omega (arith, k .is))) in
+    λ i. record { number = 0; root = d i })
+
+module _ (size : ℕ) (bs cs : List ℕ) (same : take (32 * size) bs ≡ take (32 * size) cs) where
+  -- number 4 applies to both or to neither
+  pub root-order-local : {X : Type 0} (refused : ℕ → X) (done : X)
+      → verdict refused (rootOrder (length bs under 32 * size) size) done ≡ verdict refused (rootOrder (length cs under 32 * size) size) done
+  unfolding rootOrder
+  root-order-local refused done =
+      verdict-test refused (1 if countAnswer size .number is 1 ∷ 10 if leaves size is 0 ∷ []) [] 4
+      (length bs under 32 * size) (length cs under 32 * size) done (short-local size bs cs same)
+
+  -- two buffers that agree in their first 32 × size bytes: bytes beyond the size mean nothing
+  pub root-local : (digest : List ℕ → List ℕ) → rootOutcome digest size bs ≡ rootOutcome digest size cs
+  unfolding rootOutcome rootOver
+  root-local digest =
+      root-over-local digest (nodeIn bs) (nodeIn cs) (length bs under 32 * size) size (node-local size bs cs same)
+      ∙ root-order-local rootRefused (rootDone digest (nodeIn cs) size)

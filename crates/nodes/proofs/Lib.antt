@@ -2,3 +2,4 @@
 pub mod Joined
 mod Folds
 pub mod From
+pub mod Local

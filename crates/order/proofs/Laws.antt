@@ -88,11 +88,15 @@ unfolding firstNumber
 first-next m t later h = next (λ k. k) 0 m t later (false-of t h)
 
 -- two orders that begin with one refusal
+pub verdict-both : {X : Type 0} (refused : ℕ → X) (m : ℕ) (t : Test) (xs ys : List Refusal) (x y : X)
+    → (Fails t → verdict refused xs x ≡ verdict refused ys y) → verdict refused (m if t ∷ xs) x ≡ verdict refused (m if t ∷ ys) y
+verdict-both refused m t xs ys x y h =
+    by-test t (λ e. stop refused x m t xs e ∙ sym (stop refused y m t ys e))
+    (λ e. next refused x m t xs e ∙ h (fails-of t e) ∙ sym (next refused y m t ys e))
+
 pub first-both : (m : ℕ) (t : Test) (xs ys : List Refusal) → (Fails t → firstNumber xs ≡ firstNumber ys) → firstNumber (m if t ∷ xs) ≡ firstNumber (m if t ∷ ys)
 unfolding firstNumber
-first-both m t xs ys h =
-    by-test t (λ e. stop (λ k. k) 0 m t xs e ∙ sym (stop (λ k. k) 0 m t ys e))
-    (λ e. next (λ k. k) 0 m t xs e ∙ h (fails-of t e) ∙ sym (next (λ k. k) 0 m t ys e))
+first-both m t xs ys h = verdict-both (λ k. k) m t xs ys 0 0 h
 
 -- ---- what an answer tells
 
@@ -178,6 +182,28 @@ module _ {X : Type 0} (refused : ℕ → X) (xs ys : List Refusal) (done : X) {r
   -- the first part passes, and the second decides
   pub late : Passes xs → r ≡ verdict refused ys done → r ≡ verdict refused (xs ++ ys) done
   late h e = e ∙ sym (verdict-append refused xs ys done ∙ pass refused (verdict refused ys done) xs h)
+
+-- ---- two outcomes
+
+-- what is done matters only where no refusal applies
+pub verdict-done : {X : Type 0} (refused : ℕ → X) (order : List Refusal) {x y : X} → (Passes order → x ≡ y)
+    → verdict refused order x ≡ verdict refused order y
+unfolding verdict
+verdict-done refused [] h = h tt
+verdict-done refused (m if t ∷ later) {x} {y} h = verdict-both refused m t later later x y (λ f. verdict-done refused later (λ p. h (f, p)))
+
+-- one test for another that applies where it does
+pub verdict-test : {X : Type 0} (refused : ℕ → X) (xs ys : List Refusal) (m : ℕ) (t u : Test) (done : X) → applies t ≡ applies u
+    → verdict refused (xs ++ (m if t ∷ ys)) done ≡ verdict refused (xs ++ (m if u ∷ ys)) done
+verdict-test refused xs ys m t u done e =
+    verdict-append refused xs (m if t ∷ ys) done
+    ∙ ap (verdict refused xs) (one e)
+    ∙ sym (verdict-append refused xs (m if u ∷ ys) done)
+  where
+    one : applies t ≡ applies u → verdict refused (m if t ∷ ys) done ≡ verdict refused (m if u ∷ ys) done
+    one e =
+        by-test t (λ p. stop refused done m t ys p ∙ sym (stop refused done m u ys (sym e ∙ p)))
+        (λ p. next refused done m t ys p ∙ sym (next refused done m u ys (sym e ∙ p)))
 
 -- ---- one outcome
 

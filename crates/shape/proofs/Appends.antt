@@ -11,12 +11,12 @@ use lib.Seq.{length-take-le, take-append-le, drop-append-le, getD-at, getD-appen
 use lib.Pow.{pow-mono}
 use lib.Count.{ones, ones-ones}
 use Rattle.shape.specs.Sizes.{sizeOf, trailingOnes, hashCount, heightOf}
-use Rattle.shape.specs.Nodes.{Holds, leftOf, perfectRoot, perfect, nodesIn, nodes, parentOf, climb, newNodes}
+use Rattle.shape.specs.Nodes.{Holds, leftOf, peakwise, perfectRoot, perfect, nodesIn, nodes, parentOf, climb, newNodes}
 use Rattle.shape.proofs.Powers.{lt-pow}
 use Rattle.shape.proofs.Heights.{height-above}
 use Rattle.shape.proofs.Trailing.{trailing-top, trailing-full, trailing-pow}
 use Rattle.shape.proofs.Sizes.{size-ones, size-ge}
-use Rattle.shape.proofs.Nodes.{nodes-skip, nodes-low, nodes-any, nodes-perfect, nodes-peaks}
+use Rattle.shape.proofs.Nodes.{peakwise-skip, peakwise-low, nodes-any, peakwise-one, peakwise-more}
 use Rattle.shape.proofs.Nodes.{perfect-topped, perfect-length, length-in, nodes-length}
 use Rattle.shape.proofs.Held.{holds-left, holds-right}
 
@@ -39,13 +39,13 @@ module _ (digest : List ℕ → List ℕ) (node : ℕ → List ℕ) where
 
   module _ (h : ℕ) (ds : List (List ℕ)) (d : List ℕ) (s : ℕ) where
     -- the old nodes from position s on and the new ones behind them are the nodes with one leaf more
-    abbrev Grows : Type 0
+    abbrev pub Grows : Type 0
     Grows =
         nodesIn digest (suc h) ds ++ climb digest node (trailingOnes (length ds)) 0 (s + length (nodesIn digest (suc h) ds)) d
         ≡ nodesIn digest (suc h) (ds ++ (d ∷ []))
 
   grows-none : (ds : List (List ℕ)) (d : List ℕ) (s : ℕ) → length ds < 2 ^ 0 → Grows 0 ds d s
-  unfolding nodesIn perfect climb
+  unfolding peakwise perfect climb
   grows-none [] d s p = ap (λ (k : ℕ). climb digest node k 0 (s + 0) d) (trailing-full 0 0 refl)
   grows-none (c ∷ ds) d s p = absurd (omega arith)
 
@@ -57,33 +57,33 @@ module _ (digest : List ℕ → List ℕ) (node : ℕ → List ℕ) where
     abbrev rights : List (List ℕ)
     rights = drop (2 ^ h) ds
 
-    abbrev old : List (List ℕ)
+    abbrev pub old : List (List ℕ)
     old = nodesIn digest (suc h) rights
 
-    abbrev fore : List (List ℕ)
+    abbrev pub fore : List (List ℕ)
     fore = perfect digest h lefts
 
-    left-length : length lefts ≡ 2 ^ h
+    pub left-length : length lefts ≡ 2 ^ h
     left-length = length-take-le (2 ^ h) ds q
 
     fore-length : length fore ≡ 2 ^ suc h - 1
     fore-length = perfect-length digest h lefts left-length
 
-    more : length (ds ++ (d ∷ [])) ≡ suc (length ds)
+    pub more : length (ds ++ (d ∷ [])) ≡ suc (length ds)
     more = length-append ds (d ∷ []) ∙ omega arith
 
-    left-same : take (2 ^ h) (ds ++ (d ∷ [])) ≡ lefts
+    pub left-same : take (2 ^ h) (ds ++ (d ∷ [])) ≡ lefts
     left-same = take-append-le (2 ^ h) ds (d ∷ []) q
 
-    right-more : drop (2 ^ h) (ds ++ (d ∷ [])) ≡ rights ++ (d ∷ [])
+    pub right-more : drop (2 ^ h) (ds ++ (d ∷ [])) ≡ rights ++ (d ∷ [])
     right-more = drop-append-le (2 ^ h) ds (d ∷ []) q
 
     -- the nodes before the append
-    before : nodesIn digest (suc (suc h)) ds ≡ fore ++ old
-    before = nodes-peaks digest h ds q p
+    pub before : nodesIn digest (suc (suc h)) ds ≡ fore ++ old
+    before = peakwise-more (perfect digest) h ds q p
 
     module _ (ih : Grows h rights d (s + length fore)) where
-      new-at : ℕ
+      unfoldable pub new-at : ℕ
       new-at = s + length fore + length old
 
       at-end : s + length (fore ++ old) ≡ new-at
@@ -97,12 +97,12 @@ module _ (digest : List ℕ → List ℕ) (node : ℕ → List ℕ) where
           let t : trailingOnes (length ds) ≡ trailingOnes (length rights) =
           ap trailingOnes (omega (arith, length-drop (2 ^ h) ds)) ∙ trailing-top h (length rights) (rw length-drop (omega arith)) in
           let e : nodesIn digest (suc (suc h)) (ds ++ (d ∷ [])) ≡ fore ++ nodesIn digest (suc h) (rights ++ (d ∷ [])) =
-          nodes-peaks digest h (ds ++ (d ∷ [])) (rw more (omega arith)) (rw more l) ∙ rw (left-same, right-more) in
+          peakwise-more (perfect digest) h (ds ++ (d ∷ [])) (rw more (omega arith)) (rw more l) ∙ rw (left-same, right-more) in
           rw (before, t, at-end, e, append-assoc) (ap (λ (r : List (List ℕ)). fore ++ r) ih)
 
       -- the last merge joins the two sides
       module _ (e : suc (length ds) ≡ 2 ^ suc h) (held : Holds node s (fore ++ old)) where
-        right-length : length (rights ++ (d ∷ [])) ≡ 2 ^ h
+        pub right-length : length (rights ++ (d ∷ [])) ≡ 2 ^ h
         right-length = rw (length-append, length-drop) (omega arith)
 
         old-length : length old + h ≡ 2 ^ suc h - 2
@@ -111,7 +111,7 @@ module _ (digest : List ℕ → List ℕ) (node : ℕ → List ℕ) where
             let l : length old ≡ sizeOf (length rights) = length-in digest (suc h) rights (rw length-drop (omega arith)) in
             omega (arith, size-ones (length rights), length-drop (2 ^ h) ds)
 
-        up : List (List ℕ)
+        unfoldable pub up : List (List ℕ)
         up = climb digest node h 0 new-at d
 
         right-grown : old ++ up ≡ perfect digest h (rights ++ (d ∷ []))
@@ -119,9 +119,9 @@ module _ (digest : List ℕ → List ℕ) (node : ℕ → List ℕ) where
         right-grown =
             ap (λ (k : ℕ). old ++ climb digest node k 0 (s + length fore + length old) d)
             (sym (trailing-full h (length rights) (rw length-drop (omega arith))))
-            ∙ ih ∙ nodes-perfect digest h (rights ++ (d ∷ [])) right-length
+            ∙ ih ∙ peakwise-one (perfect digest) h (rights ++ (d ∷ [])) right-length
 
-        left-top : node (leftOf h (new-at + h)) ≡ perfectRoot digest h lefts
+        pub left-top : node (leftOf h (new-at + h)) ≡ perfectRoot digest h lefts
         unfolding new-at
         left-top =
             let t = perfect-topped digest h lefts left-length in
@@ -130,7 +130,7 @@ module _ (digest : List ℕ → List ℕ) (node : ℕ → List ℕ) where
             ap node e ∙ holds-left node s fore old held (length (t .below)) k
             ∙ rw (t .ends) (getD-at (t .below) (perfectRoot digest h lefts) [] [] (length (t .below)) refl)
 
-        right-top : getD up h [] ≡ perfectRoot digest h (rights ++ (d ∷ []))
+        pub right-top : getD up h [] ≡ perfectRoot digest h (rights ++ (d ∷ []))
         right-top =
             let t = perfect-topped digest h (rights ++ (d ∷ [])) right-length in
             sym (getD-append-add old up h [])
@@ -146,7 +146,7 @@ module _ (digest : List ℕ → List ℕ) (node : ℕ → List ℕ) where
             ≡ fore ++ perfect digest h (rights ++ (d ∷ []))
             ++ (digest (perfectRoot digest h lefts ++ perfectRoot digest h (rights ++ (d ∷ []))) ∷ [])
         unfolding perfect perfectRoot
-        joined = nodes-perfect digest (suc h) (ds ++ (d ∷ [])) (more ∙ e) ∙ rw (left-same, right-more)
+        joined = peakwise-one (perfect digest) (suc h) (ds ++ (d ∷ [])) (more ∙ e) ∙ rw (left-same, right-more)
 
         grows-joined : Grows (suc h) ds d s
         unfolding up
@@ -162,14 +162,14 @@ module _ (digest : List ℕ → List ℕ) (node : ℕ → List ℕ) where
               ← right-grown,
             ) (simp append-assoc)
 
-  grows : (h : ℕ) (ds : List (List ℕ)) (d : List ℕ) (s : ℕ) → length ds < 2 ^ h → Holds node s (nodesIn digest (suc h) ds)
+  pub grows : (h : ℕ) (ds : List (List ℕ)) (d : List ℕ) (s : ℕ) → length ds < 2 ^ h → Holds node s (nodesIn digest (suc h) ds)
       → Grows h ds d s
   grows zero ds d s p f = grows-none ds d s p
   grows (suc h) ds d s p f =
       by-cases (decLt (length ds) (2 ^ h))
       (λ a.
-      let e : nodesIn digest (suc (suc h)) ds ≡ nodesIn digest (suc h) ds = nodes-skip digest (suc h) ds p in
-      rw (e, nodes-low digest h (ds ++ (d ∷ [])) (rw length-append (omega arith))) (grows h ds d s a (rw e at f)))
+      let e : nodesIn digest (suc (suc h)) ds ≡ nodesIn digest (suc h) ds = peakwise-skip (perfect digest) (suc h) ds p in
+      rw (e, peakwise-low (perfect digest) h (ds ++ (d ∷ [])) (rw length-append (omega arith))) (grows h ds d s a (rw e at f)))
       (λ a.
       let q : 2 ^ h ≤ length ds = omega arith in
       let held : Holds node s (fore h ds d s p q ++ old h ds d s p q) = rw (before h ds d s p q) at f in

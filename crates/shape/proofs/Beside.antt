@@ -18,11 +18,11 @@ use Rattle.shape.specs.Letter.{wayIn, way, fill}
 use Rattle.shape.specs.Positions.{top, behind, peaksIn, peaks, fold}
 use Rattle.shape.specs.Difference.{decided, Diff, agree, unequal, difference, Shown}
 use Rattle.shape.specs.Seen.{either, sides, seenIn, seen, brokenIn, broken}
-use Rattle.shape.proofs.Difference.{difference-same, difference-other}
+use Rattle.shape.proofs.Difference.{difference-same, difference-other, difference-each}
 use Rattle.shape.proofs.Heights.{height-holds}
 use Rattle.shape.proofs.Sizes.{size-zero, size-peak}
 use Rattle.shape.proofs.Letters.{fill-32}
-use Rattle.shape.proofs.Bind.{fronts, backs, root-32}
+use Rattle.shape.proofs.Bind.{fronts, backs, root-32, inputs-64}
 use Rattle.shape.proofs.Ways.{way-low, way-left, way-right, way-past}
 use Rattle.shape.proofs.Peaks.{peaks-low, peaks-full, peaks-some}
 use Rattle.shape.proofs.Seen.{seen-low, seen-left, seen-right, topDiffers, broken-one, broken-low, broken-left, broken-right}
@@ -31,6 +31,34 @@ use Rattle.shape.proofs.Seen.{seen-low, seen-left, seen-right, topDiffe
 either-zero : (x y : ℕ) → either x y ≡ 0 → (x ≡ 0) × (y ≡ 0)
 either-zero zero y e = (refl, e)
 either-zero (suc x) y e = absurd (omega arith)
+
+-- each string that any nodes show has 64 bytes
+module _ (digest : List ℕ → List ℕ) (digest-32 : (x : List ℕ) → length (digest x) ≡ 32)
+    (node : ℕ → List ℕ) (node-32 : (p : ℕ) → length (node p) ≡ 32) where
+  fold-32 : (ps : List ℕ) → 0 < length ps → length (fold digest node ps) ≡ 32
+  fold-32 [] p = absurd (omega arith)
+  fold-32 (x ∷ []) p = node-32 x
+  fold-32 (x ∷ y ∷ ps) p = digest-32 (node x ++ fold digest node (y ∷ ps))
+
+  sides-64 : (h n s : ℕ) → 2 ^ h < n → n ≤ 2 ^ suc h → length (sides digest node h n s) ≡ 64
+  sides-64 h n s p q =
+      let r = fold-32 (peaksIn (suc h) (n - 2 ^ h) (behind h s)) (peaks-some (suc h) (n - 2 ^ h) (behind h s) (omega arith) (omega arith)) in
+      length-append (node (top h s)) _ ∙ omega (arith, node-32 (top h s), r)
+
+  seen-each : (h n i s : ℕ) → 0 < n → n ≤ 2 ^ h → Each 64 (seenIn digest node h n i s)
+  unfolding seenIn
+  seen-each zero n i s p q = tt
+  seen-each (suc h) n i s p q =
+      by-cases (decLe n (2 ^ h))
+      (λ l. rw (seen-low digest node h n i s l) (seen-each h n i s p l))
+      (λ l. by-cases (decLt i (2 ^ h))
+      (λ c. rw (seen-left digest node h n i s (omega arith) c) (sides-64 h n s (omega arith) q, seen-each h (2 ^ h) i s (omega arith) (omega arith)))
+      (λ c. rw (seen-right digest node h n i s (omega arith) (omega arith))
+      (sides-64 h n s (omega arith) q, seen-each h (n - 2 ^ h) (i - 2 ^ h) (behind h s) (omega arith) (omega arith))))
+
+  seen-64 : (n i : ℕ) → 0 < n → Each 64 (seen digest node n i)
+  unfolding seen
+  seen-64 n i p = seen-each (heightOf n) n i 0 p (height-holds n)
 
 module _ (digest : List ℕ → List ℕ) (digest-32 : (x : List ℕ) → length (digest x) ≡ 32)
     (node : ℕ → List ℕ) (node-32 : (p : ℕ) → length (node p) ≡ 32) (leaf : List ℕ) (leaf-32 : length leaf ≡ 32) where
@@ -168,39 +196,16 @@ module _ (digest : List ℕ → List ℕ) (digest-32 : (x : List ℕ) → length
     pub agreed : difference (seen digest node n i) (inputs digest (fill (way n i) leaf xs)) ≡ agree → broken digest node n i ≡ 0
     agreed d = (rw d at tells) .0
 
-    -- where no node is broken, the leaf's node is the tree's leaf, or the first difference is two strings with one digest
+    -- where no node is broken, the leaf's node is the tree's leaf, or the first difference is a collision
     pub nodes-bind : broken digest node n i ≡ 0
         → Shown digest (node (sizeOf i) ≡ leaf) (difference (seen digest node n i) (inputs digest (fill (way n i) leaf xs)))
-    nodes-bind b = go (difference (seen digest node n i) (inputs digest (fill (way n i) leaf xs))) tells
+    nodes-bind b = go (difference (seen digest node n i) (inputs digest (fill (way n i) leaf xs))) refl tells
       where
-        go : (d : Diff) → Tells (broken digest node n i) (node (sizeOf i)) d → Shown digest (node (sizeOf i) ≡ leaf) d
-        go agree t = t .1
-        go (unequal c d) t = (t .0, t .1 b)
-
--- each string that any nodes show has 64 bytes
-module _ (digest : List ℕ → List ℕ) (digest-32 : (x : List ℕ) → length (digest x) ≡ 32)
-    (node : ℕ → List ℕ) (node-32 : (p : ℕ) → length (node p) ≡ 32) where
-  fold-32 : (ps : List ℕ) → 0 < length ps → length (fold digest node ps) ≡ 32
-  fold-32 [] p = absurd (omega arith)
-  fold-32 (x ∷ []) p = node-32 x
-  fold-32 (x ∷ y ∷ ps) p = digest-32 (node x ++ fold digest node (y ∷ ps))
-
-  sides-64 : (h n s : ℕ) → 2 ^ h < n → n ≤ 2 ^ suc h → length (sides digest node h n s) ≡ 64
-  sides-64 h n s p q =
-      let r = fold-32 (peaksIn (suc h) (n - 2 ^ h) (behind h s)) (peaks-some (suc h) (n - 2 ^ h) (behind h s) (omega arith) (omega arith)) in
-      length-append (node (top h s)) _ ∙ omega (arith, node-32 (top h s), r)
-
-  seen-each : (h n i s : ℕ) → 0 < n → n ≤ 2 ^ h → Each 64 (seenIn digest node h n i s)
-  unfolding seenIn
-  seen-each zero n i s p q = tt
-  seen-each (suc h) n i s p q =
-      by-cases (decLe n (2 ^ h))
-      (λ l. rw (seen-low digest node h n i s l) (seen-each h n i s p l))
-      (λ l. by-cases (decLt i (2 ^ h))
-      (λ c. rw (seen-left digest node h n i s (omega arith) c) (sides-64 h n s (omega arith) q, seen-each h (2 ^ h) i s (omega arith) (omega arith)))
-      (λ c. rw (seen-right digest node h n i s (omega arith) (omega arith))
-      (sides-64 h n s (omega arith) q, seen-each h (n - 2 ^ h) (i - 2 ^ h) (behind h s) (omega arith) (omega arith))))
-
-  pub seen-64 : (n i : ℕ) → 0 < n → Each 64 (seen digest node n i)
-  unfolding seen
-  seen-64 n i p = seen-each (heightOf n) n i 0 p (height-holds n)
+        go : (d : Diff) → difference (seen digest node n i) (inputs digest (fill (way n i) leaf xs)) ≡ d
+            → Tells (broken digest node n i) (node (sizeOf i)) d → Shown digest (node (sizeOf i) ≡ leaf) d
+        go agree f t = t .1
+        go (unequal c d) f t =
+            let w = difference-each 64 (seen digest node n i) (inputs digest (fill (way n i) leaf xs)) c d
+            (seen-64 digest digest-32 node node-32 n i (omega arith))
+            (inputs-64 digest digest-32 (fill (way n i) leaf xs) (fill-32 (way n i) leaf xs m e leaf-32)) f in
+            record { first = w .0; second = w .1; apart = t .0; one = t .1 b }

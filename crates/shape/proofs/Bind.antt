@@ -29,11 +29,14 @@ module _ (digest : List ℕ → List ℕ) where
     root-32 (tip d) s = s
     root-32 (fork l r) s = digest-32 (root digest l ++ root digest r)
 
+    fork-64 : (l r : Tree) → Tips32 l → Tips32 r → length (root digest l ++ root digest r) ≡ 64
+    fork-64 l r p q = rw length-append (omega (arith, root-32 l p, root-32 r q))
+
     -- each input has 64 bytes
     pub inputs-64 : (t : Tree) → Tips32 t → Each 64 (inputs digest t)
     inputs-64 (tip d) s = tt
     inputs-64 (fork l r) s = (
-      rw length-append (omega (arith, root-32 l (s .0), root-32 r (s .1))),
+      fork-64 l r (s .0) (s .1),
       each-append 64 (inputs digest l) (inputs digest r) (inputs-64 l (s .0)) (inputs-64 r (s .1)),
     )
 
@@ -43,7 +46,7 @@ module _ (digest : List ℕ → List ℕ) where
     bind tips p q e = ap tip e
     bind (forks {l} {m} {r} {s} a b) p q e =
         shown-cons digest (fork l r ≡ fork m s) (root digest l ++ root digest r) (root digest m ++ root digest s)
-        (inputs digest l ++ inputs digest r) (inputs digest m ++ inputs digest s) e λ k.
+        (inputs digest l ++ inputs digest r) (inputs digest m ++ inputs digest s) (fork-64 l r (p .0) (p .1)) (fork-64 m s (q .0) (q .1)) e λ k.
         let n : length (root digest l) ≡ length (root digest m) = root-32 l (p .0) ∙ sym (root-32 m (q .0)) in
         let f : root digest l ≡ root digest m = fronts (root digest l) (root digest r) (root digest m) (root digest s) n k in
         let g : root digest r ≡ root digest s = backs (root digest l) (root digest r) (root digest m) (root digest s) n k in

@@ -1,13 +1,14 @@
 -- The first difference of two lists of strings: its equations, where there is none, and where the two strings come from.
 use mathlib.Core.Path.{_≡_, refl, sym, ap, _∙_}
 use mathlib.Core.Logic.{_≢_}
-use mathlib.Core.List.{List, [], _∷_, _++_, map}
+use mathlib.Core.List.{List, [], _∷_, _++_, map, List·Mem, mem-cons-self, mem-cons-of-mem}
 use Prim.Native.Nat.{ℕ}
 use native.Mathlib.Nat.{suc-inj}
 use native.Mathlib.Omega.{arith}
 use lib.ListN.{length}
 use Rattle.wire.specs.Slices.{Each}
-use Rattle.shape.specs.Difference.{decided, whether, Diff, agree, unequal, difference, Shown}
+use Rattle.shape.specs.Tree.{Tree}
+use Rattle.shape.specs.Difference.{decided, whether, Diff, agree, unequal, difference, Shown, ShownAt}
 
 whether-yes : {P A : Type 0} (d : Dec P) (a b : A) → P → whether d a b ≡ a
 whether-yes (yes q) a b p = refl
@@ -34,13 +35,6 @@ unfolding difference
 difference-none [] = refl
 difference-none (x ∷ xs) = difference-same x x xs xs refl ∙ difference-none xs
 
--- two lists that agree begin with one string, and agree behind it
-pub agree-cons : (x y : List ℕ) (xs ys : List (List ℕ)) → difference (x ∷ xs) (y ∷ ys) ≡ agree → (x ≡ y) × (difference xs ys ≡ agree)
-agree-cons x y xs ys e = elim (decided x y) [
-  | yes f ↦ (f, sym (difference-same x y xs ys f) ∙ e)
-  | no f ↦ no-unequal (sym e ∙ difference-other x y xs ys f)
-]
-
 -- strings of k bytes that differ have k bytes
 pub difference-each : (k : ℕ) (xs ys : List (List ℕ)) (a b : List ℕ) → Each k xs → Each k ys → difference xs ys ≡ unequal a b
     → (length a ≡ k) × (length b ≡ k)
@@ -58,14 +52,16 @@ difference-each k (x ∷ xs) (y ∷ ys) a b p q e = elim (decided x y) [
 
 -- what two functions give at the elements of one list differs first at one of them
 pub difference-map : {A : Type 0} (f g : A → List ℕ) (ps : List A) (a b : List ℕ) → difference (map f ps) (map g ps) ≡ unequal a b
-    → (p : A) × (a ≡ f p) × (b ≡ g p)
+    → (p : A) × List·Mem p ps × (a ≡ f p) × (b ≡ g p)
 unfolding difference
 difference-map f g [] a b e = no-unequal e
 difference-map f g (p ∷ ps) a b e = elim (decided (f p) (g p)) [
-  | yes h ↦ difference-map f g ps a b (sym (difference-same (f p) (g p) (map f ps) (map g ps) h) ∙ e)
+  | yes h ↦
+      let w = difference-map f g ps a b (sym (difference-same (f p) (g p) (map f ps) (map g ps) h) ∙ e) in
+      (w .0, mem-cons-of-mem p (w .1), w .2, w .3)
   | no h ↦
       let k : unequal (f p) (g p) ≡ unequal a b = sym (difference-other (f p) (g p) (map f ps) (map g ps) h) ∙ e in
-      (p, (cc), (cc))
+      (p, mem-cons-self, (cc), (cc))
 ]
 
 module _ (digest : List ℕ → List ℕ) where
@@ -73,12 +69,16 @@ module _ (digest : List ℕ → List ℕ) where
   shown-map P Q agree f s = f s
   shown-map P Q (unequal a b) f s = s
 
-  -- two lists with one string more in front
-  pub shown-cons : (P : Type 0) (x y : List ℕ) (xs ys : List (List ℕ)) → digest x ≡ digest y → (x ≡ y → Shown digest P (difference xs ys))
-      → Shown digest P (difference (x ∷ xs) (y ∷ ys))
-  shown-cons P x y xs ys h k = elim (decided x y) [
+  pub shown-at-map : (t u : Tree) (P Q : Type 0) (d : Diff) → (P → Q) → ShownAt digest t u P d → ShownAt digest t u Q d
+  shown-at-map t u P Q agree f s = f s
+  shown-at-map t u P Q (unequal a b) f s = s
+
+  -- two lists with one string of 64 bytes more in front
+  pub shown-cons : (P : Type 0) (x y : List ℕ) (xs ys : List (List ℕ)) → length x ≡ 64 → length y ≡ 64 → digest x ≡ digest y
+      → (x ≡ y → Shown digest P (difference xs ys)) → Shown digest P (difference (x ∷ xs) (y ∷ ys))
+  shown-cons P x y xs ys m n h k = elim (decided x y) [
     | yes e ↦ rw (difference-same x y xs ys e) (k e)
-    | no e ↦ rw (difference-other x y xs ys e) (e, h)
+    | no e ↦ rw (difference-other x y xs ys e) (record { first = m; second = n; apart = e; one = h })
   ]
 
   -- two lists joined

@@ -5,14 +5,14 @@ use Prim.Native.Nat.{ℕ, suc}
 use native.Mathlib.Omega.{arith}
 use lib.ListN.{length, length-append, length-drop, getD, take, drop}
 use lib.Seq.{take-at, getD-at, take-suc, take-all, drop-cons, length-take-le}
-use Rattle.shape.specs.Tree.{Tree, tip, Tips32, Alike, tips, forks, Turn, left, right, past, root, inputs, Pruned, cut, kept, OnePlace}
+use Rattle.shape.specs.Tree.{Tree, tip, Tips32, Alike, tips, forks, Turn, left, right, past, root, inputs, Pruned, cut, kept}
 use Rattle.wire.specs.Slices.{Each}
 use Rattle.shape.specs.Letter.{Leads, here, to-left, to-right, to-past, fill, items}
-use Rattle.shape.specs.Difference.{unequal, difference, Shown}
-use Rattle.shape.proofs.Difference.{difference-each, shown-map}
+use Rattle.shape.specs.Difference.{difference, ShownAt}
+use Rattle.shape.proofs.Difference.{shown-at-map}
 use Rattle.wire.proofs.Each.{each-append, each-take, each-drop, each-at}
-use Rattle.shape.proofs.Bind.{root-32, inputs-64, bind}
-use Rattle.shape.proofs.Prune.{pruned-root, first-place}
+use Rattle.shape.proofs.Bind.{root-32}
+use Rattle.shape.proofs.Prune.{pruned-root, pruned-bind}
 
 -- all but the last string of a list, and the last
 snoc : (xs : List (List ℕ)) (n : ℕ) → length xs ≡ suc n → xs ≡ take n xs ++ (getD xs n [] ∷ [])
@@ -111,24 +111,14 @@ module _ (digest : List ℕ → List ℕ) where
     own-32 : {t : Tree} {w : List Turn} {d : List ℕ} → Leads t w d → Tips32 t → Tips32 (fill w d (items digest t w))
     own-32 {t} {w} {d} p s = fill-32 w d (items digest t w) (items-length p) (items-32 p s) (leaf-32 p s)
 
-    -- a leaf and items of the right number that give the log's root are the log's; or the first difference of the inputs is a collision
+    -- a leaf and items of the right number that give the log's root are the log's; or the first difference of the inputs is a collision, at one
+    -- place of the log's tree and the letter's
     pub letter-bind : {t : Tree} {w : List Turn} {d : List ℕ} → Leads t w d → Tips32 t → (e : List ℕ) (xs : List (List ℕ))
         → length e ≡ 32 → Each 32 xs → length xs ≡ length w → root digest (fill w e xs) ≡ root digest t
-        → Shown digest ((d ≡ e) × (items digest t w ≡ xs))
+        → ShownAt digest t (fill w e xs) ((d ≡ e) × (items digest t w ≡ xs))
         (difference (inputs digest (fill w d (items digest t w))) (inputs digest (fill w e xs)))
     letter-bind {t} {w} {d} p s e xs n q m k =
-        shown-map digest (fill w d (items digest t w) ≡ fill w e xs) _
+        shown-at-map digest t (fill w e xs) (fill w d (items digest t w) ≡ fill w e xs) _
         (difference (inputs digest (fill w d (items digest t w))) (inputs digest (fill w e xs)))
         (fill-inj w d e (items digest t w) xs (items-length p) m)
-        (bind digest digest-32 (fill-alike w d e (items digest t w) xs) (own-32 p s) (fill-32 w e xs m q n) (complete p ∙ sym k))
-
-    -- and that difference stands at one place of the log's tree and the letter's: two strings of 64 bytes
-    pub letter-place : {t : Tree} {w : List Turn} {d : List ℕ} → Leads t w d → Tips32 t → (e : List ℕ) (xs : List (List ℕ))
-        → length e ≡ 32 → Each 32 xs → length xs ≡ length w → (a b : List ℕ)
-        → difference (inputs digest (fill w d (items digest t w))) (inputs digest (fill w e xs)) ≡ unequal a b
-        → OnePlace digest t (fill w e xs) a b × (length a ≡ 64) × (length b ≡ 64)
-    letter-place {t} {w} {d} p s e xs n q m a b f =
-        let ours = inputs-64 digest digest-32 (fill w d (items digest t w)) (own-32 p s) in
-        let theirs = inputs-64 digest digest-32 (fill w e xs) (fill-32 w e xs m q n) in
-        let k = difference-each 64 (inputs digest (fill w d (items digest t w))) (inputs digest (fill w e xs)) a b ours theirs f in
-        (first-place digest a b (fill-pruned p) (fill-alike w d e (items digest t w) xs) f, k .0, k .1)
+        (pruned-bind digest digest-32 (fill-pruned p) (fill-alike w d e (items digest t w) xs) (own-32 p s) (fill-32 w e xs m q n) k)

@@ -10,7 +10,7 @@ pub mod Only
 pub mod Marks
 pub mod Difference
 pub mod Bind
-mod Prune
+pub mod Prune
 pub mod Letters
 pub mod Trees
 pub mod Plain
@@ -22,6 +22,8 @@ pub mod Leaves
 pub mod Peaks
 pub mod Positions
 pub mod Reading
+pub mod Hashed
 pub mod Seen
+pub mod Inside
 pub mod Own
 pub mod Beside

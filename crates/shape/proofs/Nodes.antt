@@ -13,54 +13,56 @@ use Rattle.shape.specs.Sizes.{sizeOf, heightOf}
 use Rattle.wire.specs.Slices.{Each}
 use Rattle.shape.specs.Tree.{root}
 use Rattle.shape.specs.Folded.{treeIn}
-use Rattle.shape.specs.Nodes.{perfectRoot, perfect, nodesIn, nodes}
+use Rattle.shape.specs.Nodes.{peakwise, perfectRoot, perfect, nodesIn, nodes}
 use Rattle.shape.proofs.Heights.{height-above, any-height}
 use Rattle.shape.proofs.Sizes.{size-zero, size-peak}
 use Rattle.wire.proofs.Each.{each-append, each-take, each-drop}
 use Rattle.shape.proofs.Trees.{tree-high}
 
+-- what each peak gives, whatever it is
+module _ (give : ℕ → List (List ℕ) → List (List ℕ)) where
+  pub peakwise-skip : (k : ℕ) (ds : List (List ℕ)) → length ds < 2 ^ k → peakwise give (suc k) ds ≡ peakwise give k ds
+  unfolding peakwise
+  peakwise-skip k ds p = rw (lt-leb (2 ^ k) (length ds) p, peakwise)
+
+  pub peakwise-take : (k : ℕ) (ds : List (List ℕ)) → 2 ^ k ≤ length ds
+      → peakwise give (suc k) ds ≡ give k (take (2 ^ k) ds) ++ peakwise give k (drop (2 ^ k) ds)
+  unfolding peakwise
+  peakwise-take k ds p = rw (le-leb (2 ^ k) (length ds) p, peakwise)
+
+  pub peakwise-none : (k : ℕ) → peakwise give k [] ≡ []
+  unfolding peakwise
+  peakwise-none zero = refl
+  peakwise-none (suc k) = peakwise-skip k [] (pow-pos k) ∙ peakwise-none k
+
+  pub peakwise-low : (h : ℕ) (ds : List (List ℕ)) → length ds ≤ 2 ^ h → peakwise give (suc (suc h)) ds ≡ peakwise give (suc h) ds
+  peakwise-low h ds p = peakwise-skip (suc h) ds (omega (arith, pow-pos h))
+
+  pub peakwise-any : (h : ℕ) (ds : List (List ℕ)) → length ds ≤ 2 ^ h → peakwise give (suc h) ds ≡ peakwise give (suc (heightOf (length ds))) ds
+  peakwise-any h ds p = any-height (λ (k : ℕ). peakwise give (suc k) ds) (length ds) (λ k q. peakwise-low k ds q) h p
+
+  -- one peak is all
+  pub peakwise-one : (h : ℕ) (ds : List (List ℕ)) → length ds ≡ 2 ^ h → peakwise give (suc h) ds ≡ give h ds
+  peakwise-one h ds e =
+      peakwise-take h ds (omega arith)
+      ∙ rw (take-all (2 ^ h) ds (omega arith), drop-of-length-le ds {i = 2 ^ h} (omega arith), peakwise-none h) (append-nil (give h ds))
+
+  -- more than one: the tallest first, then those of the rest
+  pub peakwise-more : (h : ℕ) (ds : List (List ℕ)) → 2 ^ h ≤ length ds → length ds < 2 ^ suc h
+      → peakwise give (suc (suc h)) ds ≡ give h (take (2 ^ h) ds) ++ peakwise give (suc h) (drop (2 ^ h) ds)
+  peakwise-more h ds p q =
+      peakwise-skip (suc h) ds q ∙ peakwise-take h ds p
+      ∙ ap (λ (r : List (List ℕ)). give h (take (2 ^ h) ds) ++ r) (sym (peakwise-skip h (drop (2 ^ h) ds) (rw length-drop (omega arith))))
+
 module _ (digest : List ℕ → List ℕ) where
-  pub nodes-skip : (k : ℕ) (ds : List (List ℕ)) → length ds < 2 ^ k → nodesIn digest (suc k) ds ≡ nodesIn digest k ds
-  unfolding nodesIn
-  nodes-skip k ds p = rw (lt-leb (2 ^ k) (length ds) p, nodesIn)
-
-  pub nodes-take : (k : ℕ) (ds : List (List ℕ)) → 2 ^ k ≤ length ds
-      → nodesIn digest (suc k) ds ≡ perfect digest k (take (2 ^ k) ds) ++ nodesIn digest k (drop (2 ^ k) ds)
-  unfolding nodesIn
-  nodes-take k ds p = rw (le-leb (2 ^ k) (length ds) p, nodesIn)
-
-  pub nodes-none : (k : ℕ) → nodesIn digest k [] ≡ []
-  unfolding nodesIn
-  nodes-none zero = refl
-  nodes-none (suc k) = nodes-skip k [] (pow-pos k) ∙ nodes-none k
-
   -- an empty log has no nodes
   pub nodes-empty : nodes digest [] ≡ []
   unfolding nodes
-  nodes-empty = nodes-none _
-
-  pub nodes-low : (h : ℕ) (ds : List (List ℕ)) → length ds ≤ 2 ^ h → nodesIn digest (suc (suc h)) ds ≡ nodesIn digest (suc h) ds
-  nodes-low h ds p = nodes-skip (suc h) ds (omega (arith, pow-pos h))
+  nodes-empty = peakwise-none (perfect digest) _
 
   pub nodes-any : (h : ℕ) (ds : List (List ℕ)) → length ds ≤ 2 ^ h → nodesIn digest (suc h) ds ≡ nodes digest ds
   unfolding nodes
-  nodes-any h ds p =
-      any-height (λ (k : ℕ). nodesIn digest (suc k) ds) (length ds) (λ k q. nodes-low k ds q) h p
-
-  -- one peak is all
-  pub nodes-perfect : (h : ℕ) (ds : List (List ℕ)) → length ds ≡ 2 ^ h → nodesIn digest (suc h) ds ≡ perfect digest h ds
-  nodes-perfect h ds e =
-      nodes-take h ds (omega arith)
-      ∙ rw (take-all (2 ^ h) ds (omega arith), drop-of-length-le ds {i = 2 ^ h} (omega arith), nodes-none h)
-      (append-nil (perfect digest h ds))
-
-  -- more than one: the tallest first, then those of the rest
-  pub nodes-peaks : (h : ℕ) (ds : List (List ℕ)) → 2 ^ h ≤ length ds → length ds < 2 ^ suc h
-      → nodesIn digest (suc (suc h)) ds ≡ perfect digest h (take (2 ^ h) ds) ++ nodesIn digest (suc h) (drop (2 ^ h) ds)
-  nodes-peaks h ds p q =
-      nodes-skip (suc h) ds q ∙ nodes-take h ds p
-      ∙ ap (λ (r : List (List ℕ)). perfect digest h (take (2 ^ h) ds) ++ r)
-      (sym (nodes-skip h (drop (2 ^ h) ds) (rw length-drop (omega arith))))
+  nodes-any h ds p = peakwise-any (perfect digest) h ds p
 
   -- the top of a perfect tree is its last node
   pub record Topped (h : ℕ) (ds : List (List ℕ)) : Type 0 where
@@ -89,17 +91,17 @@ module _ (digest : List ℕ → List ℕ) where
   perfect-length h ds e = omega (arith, topped-length (perfect-topped h ds e))
 
   pub length-in : (k : ℕ) (ds : List (List ℕ)) → length ds < 2 ^ k → length (nodesIn digest k ds) ≡ sizeOf (length ds)
-  unfolding nodesIn
+  unfolding peakwise
   length-in zero [] p = sym size-zero
   length-in zero (d ∷ ds) p = absurd (omega arith)
   length-in (suc k) ds p =
       by-cases (decLt (length ds) (2 ^ k))
-      (λ a. rw (nodes-skip k ds a) (length-in k ds a))
+      (λ a. rw (peakwise-skip (perfect digest) k ds a) (length-in k ds a))
       (λ a.
       let e : 2 ^ k + length (drop (2 ^ k) ds) ≡ length ds = rw length-drop (omega arith) in
       let b : length (drop (2 ^ k) ds) < 2 ^ k = omega arith in
       rw (
-        nodes-take k ds (omega arith),
+        peakwise-take (perfect digest) k ds (omega arith),
         length-append,
         perfect-length k (take (2 ^ k) ds) (length-take-le (2 ^ k) ds (omega arith)),
         length-in k (drop (2 ^ k) ds) b,
@@ -132,13 +134,13 @@ module _ (digest : List ℕ → List ℕ) where
         (digest-32 _, tt)
 
     each-in : (k : ℕ) (ds : List (List ℕ)) → Each 32 ds → Each 32 (nodesIn digest k ds)
-    unfolding nodesIn
+    unfolding peakwise
     each-in zero ds p = tt
     each-in (suc k) ds p =
         by-cases (decLt (length ds) (2 ^ k))
-        (λ a. rw (nodes-skip k ds a) (each-in k ds p))
+        (λ a. rw (peakwise-skip (perfect digest) k ds a) (each-in k ds p))
         (λ a.
-        rw (nodes-take k ds (omega arith))
+        rw (peakwise-take (perfect digest) k ds (omega arith))
         (each-append 32 (perfect digest k (take (2 ^ k) ds)) (nodesIn digest k (drop (2 ^ k) ds))
         (perfect-32 k (take (2 ^ k) ds) (length-take-le (2 ^ k) ds (omega arith)) (each-take 32 (2 ^ k) ds p))
         (each-in k (drop (2 ^ k) ds) (each-drop 32 (2 ^ k) ds p))))

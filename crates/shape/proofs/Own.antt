@@ -11,7 +11,7 @@ use Rattle.wire.proofs.Differences.{differ-same}
 use Rattle.shape.specs.Sizes.{heightOf}
 use Rattle.shape.specs.Tree.{Tree, tip, fork, Turn, left, right, past, root, inputs}
 use Rattle.shape.specs.Folded.{treeIn, tree}
-use Rattle.shape.specs.Nodes.{Holds, nodesIn, nodes}
+use Rattle.shape.specs.Nodes.{Holds, perfect, nodesIn, nodes}
 use Rattle.shape.specs.Positions.{behind}
 use Rattle.shape.specs.Letter.{wayIn, way, Leads, here, to-left, to-right, to-past, fill, items}
 use Rattle.shape.specs.Seen.{sides, seenIn, seen, brokenIn, broken}
@@ -19,7 +19,7 @@ use Rattle.shape.proofs.Heights.{height-holds}
 use Rattle.shape.proofs.Letters.{items-length, complete}
 use Rattle.shape.proofs.Trees.{tree-low, tree-high}
 use Rattle.shape.proofs.Ways.{way-low, way-left, way-right, way-past, leads-in}
-use Rattle.shape.proofs.Nodes.{nodes-low, nodes-perfect}
+use Rattle.shape.proofs.Nodes.{peakwise-low, peakwise-one}
 use Rattle.shape.proofs.Reading.{sides-held, root-in, left-read, right-read}
 use Rattle.shape.proofs.Seen.{seen-low, seen-left, seen-right, topDiffers, broken-low, broken-left, broken-right, broken-one}
 
@@ -88,7 +88,7 @@ module _ (digest : List ℕ → List ℕ) where
     own-in (suc h) s ds i p q f =
         by-cases (decLe (length ds) (2 ^ h))
         (λ a.
-        let o = own-in h s ds i p a (rw (nodes-low digest h ds a) at f) in
+        let o = own-in h s ds i p a (rw (peakwise-low (perfect digest) h ds a) at f) in
         record {
           shows = rw (seen-low digest node h (length ds) i s a, tree-low h ds a, way-low h (length ds) i a) (o .shows);
           sound = rw (broken-low digest node h (length ds) i s a) (o .sound);
@@ -100,7 +100,7 @@ module _ (digest : List ℕ → List ℕ) where
         let m : length (drop (2 ^ h) ds) ≡ length ds - 2 ^ h = length-drop (2 ^ h) ds in
         by-cases (decLt i (2 ^ h))
         (λ c.
-        let o = own-in h s (take (2 ^ h) ds) i (omega arith) (omega arith) (rw (nodes-perfect digest h (take (2 ^ h) ds) n) (d .lefts)) in
+        let o = own-in h s (take (2 ^ h) ds) i (omega arith) (omega arith) (rw (peakwise-one (perfect digest) h (take (2 ^ h) ds) n) (d .lefts)) in
         record {
           shows =
               rw (seen-left digest node h (length ds) i s l c, way-left h (length ds) i l c, tree-high h ds l, sides-own h s ds l q f)

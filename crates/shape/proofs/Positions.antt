@@ -8,8 +8,7 @@ use native.Mathlib.Omega.{arith}
 use lib.ListN.{length}
 use lib.Pow.{pow-pos}
 use borrow.Author.Tests.{le-leb, lt-leb, lt-ltb, le-ltb}
-use Rattle.shape.specs.Positions.{top, behind, peaksIn, alone, siblings, toTheRight, positionsIn, itemPositions}
-use Rattle.shape.proofs.Heights.{any-height}
+use Rattle.shape.specs.Positions.{top, behind, peaksIn, alone, siblings, toTheRight, positionsIn}
 use Rattle.shape.proofs.Peaks.{peaks-skip, peaks-none, peaks-full, peaks-some}
 
 right-all : (ps : List ℕ) → 0 < length ps → toTheRight ps ≡ ps ∷ []
@@ -81,7 +80,3 @@ positions-past h n i s p q l =
     positions-skip (suc h) n i s q ∙ positions-pass h n i s (omega arith) l
     ∙ ap {B = List (List ℕ)} (λ r. alone (top h s) ∷ r)
     (sym (positions-skip h (n - 2 ^ h) (i - 2 ^ h) (behind h s) (omega arith)))
-
-pub positions-any : (h n i : ℕ) → n ≤ 2 ^ h → positionsIn (suc h) n i 0 ≡ itemPositions n i
-unfolding itemPositions
-positions-any h n i p = any-height (λ (k : ℕ). positionsIn (suc k) n i 0) n (λ k q. positions-low k n i 0 q) h p

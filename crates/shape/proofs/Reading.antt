@@ -18,7 +18,7 @@ use Rattle.shape.proofs.Heights.{height-holds}
 use Rattle.shape.proofs.Trees.{tree-low, tree-high}
 use Rattle.shape.proofs.Letters.{items-length}
 use Rattle.shape.proofs.Ways.{way-low, way-left, way-right, way-past, way-leads}
-use Rattle.shape.proofs.Nodes.{nodes-low, nodes-perfect, nodes-peaks, perfect-topped, perfect-length, perfect-root}
+use Rattle.shape.proofs.Nodes.{peakwise-low, peakwise-one, peakwise-more, perfect-topped, perfect-length, perfect-root}
 use Rattle.shape.proofs.Held.{holds-left, holds-right}
 use Rattle.shape.proofs.Peaks.{peaks-low, peaks-full, peaks-more, peaks-some}
 use Rattle.shape.proofs.Positions.{positions-one, positions-low, positions-left, positions-right, positions-past}
@@ -61,23 +61,23 @@ module _ (digest : List ℕ → List ℕ) (node : ℕ → List ℕ) where
       let back : List (List ℕ) = nodesIn digest (suc h) (drop (2 ^ h) ds) in
       by-cases (decLt (length ds) (2 ^ suc h))
       (λ a.
-      let e : nodesIn digest (suc (suc h)) ds ≡ fore ++ (back ++ []) = nodes-peaks digest h ds (omega arith) a ∙ rw (append-nil back) in
+      let e : nodesIn digest (suc (suc h)) ds ≡ fore ++ (back ++ []) = peakwise-more (perfect digest) h ds (omega arith) a ∙ rw (append-nil back) in
       sides-of h s ds [] (omega arith) (rw e at f))
       (λ a.
       let n : length ds ≡ 2 ^ suc h = omega arith in
-      let r : back ≡ perfect digest h (drop (2 ^ h) ds) = nodes-perfect digest h (drop (2 ^ h) ds) (length-drop (2 ^ h) ds ∙ omega arith) in
+      let r : back ≡ perfect digest h (drop (2 ^ h) ds) = peakwise-one (perfect digest) h (drop (2 ^ h) ds) (length-drop (2 ^ h) ds ∙ omega arith) in
       let e : nodesIn digest (suc (suc h)) ds ≡ fore ++ (back ++ (perfectRoot digest (suc h) ds ∷ [])) =
-      nodes-perfect digest (suc h) ds n ∙ rw r (append-assoc fore (perfect digest h (drop (2 ^ h) ds)) (perfectRoot digest (suc h) ds ∷ [])) in
+      peakwise-one (perfect digest) (suc h) ds n ∙ rw r (append-assoc fore (perfect digest h (drop (2 ^ h) ds)) (perfectRoot digest (suc h) ds ∷ [])) in
       sides-of h s ds (perfectRoot digest (suc h) ds ∷ []) (omega arith) (rw e at f))
 
   pub root-in : (h s : ℕ) (ds : List (List ℕ)) → 0 < length ds → length ds ≤ 2 ^ h → Holds node s (nodesIn digest (suc h) ds)
       → fold digest node (peaksIn (suc h) (length ds) s) ≡ root digest (treeIn h ds)
   root-in zero s ds p q f =
       let e : length ds ≡ 1 = omega arith in
-      rw (peaks-full 0 (length ds) s e) (top-read 0 s ds e (rw (nodes-perfect digest 0 ds e) at f))
+      rw (peaks-full 0 (length ds) s e) (top-read 0 s ds e (rw (peakwise-one (perfect digest) 0 ds e) at f))
   root-in (suc h) s ds p q f =
       by-cases (decLe (length ds) (2 ^ h))
-      (λ a. rw (peaks-low h (length ds) s a, tree-low h ds a) (root-in h s ds p a (rw (nodes-low digest h ds a) at f)))
+      (λ a. rw (peaks-low h (length ds) s a, tree-low h ds a) (root-in h s ds p a (rw (peakwise-low (perfect digest) h ds a) at f)))
       (λ a. by-cases (decLt (length ds) (2 ^ suc h))
       (λ b.
       let l : 2 ^ h < length ds = omega arith in
@@ -94,7 +94,7 @@ module _ (digest : List ℕ → List ℕ) (node : ℕ → List ℕ) where
       ))
       (λ b.
       let n : length ds ≡ 2 ^ suc h = omega arith in
-      rw (peaks-full (suc h) (length ds) s n) (top-read (suc h) s ds n (rw (nodes-perfect digest (suc h) ds n) at f))))
+      rw (peaks-full (suc h) (length ds) s n) (top-read (suc h) s ds n (rw (peakwise-one (perfect digest) (suc h) ds n) at f))))
 
   -- the root from any buffer that holds the log's nodes
   pub root-read : (ds : List (List ℕ)) → 0 < length ds → Holds node 0 (nodes digest ds)
@@ -124,7 +124,7 @@ module _ (digest : List ℕ → List ℕ) (node : ℕ → List ℕ) where
       by-cases (decLe (length ds) (2 ^ h))
       (λ a.
       rw (positions-low h (length ds) i s a, tree-low h ds a, way-low h (length ds) i a)
-      (items-in h s ds i p a (rw (nodes-low digest h ds a) at f)))
+      (items-in h s ds i p a (rw (peakwise-low (perfect digest) h ds a) at f)))
       (λ a.
       let l : 2 ^ h < length ds = omega arith in
       let d = sides-held h s ds l q f in
@@ -133,7 +133,7 @@ module _ (digest : List ℕ → List ℕ) (node : ℕ → List ℕ) where
       by-cases (decLt i (2 ^ h))
       (λ c.
       let t : ItemsIn h s (take (2 ^ h) ds) i =
-      items-in h s (take (2 ^ h) ds) i (omega arith) (omega arith) (rw (nodes-perfect digest h (take (2 ^ h) ds) n) (d .lefts)) in
+      items-in h s (take (2 ^ h) ds) i (omega arith) (omega arith) (rw (peakwise-one (perfect digest) h (take (2 ^ h) ds) n) (d .lefts)) in
       rw (
         positions-left h (length ds) i s l q c,
         way-left h (length ds) i l c,

@@ -4,6 +4,8 @@ use mathlib.Core.Logic.{_≢_}
 use mathlib.Core.List.{List, [], _∷_, List-discrete}
 use Prim.Native.Nat.{ℕ}
 use native.Mathlib.Decide.{ℕ-discrete}
+use lib.ListN.{length}
+use Rattle.shape.specs.Tree.{Tree, OnePlace}
 
 -- two strings are equal or not
 abbrev pub decided : (x y : List ℕ) → Dec (x ≡ y)
@@ -26,7 +28,19 @@ difference (x ∷ xs) [] = agree
 difference (x ∷ xs) (y ∷ ys) = whether (decided x y) (difference xs ys) (unequal x y)
 
 module _ (digest : List ℕ → List ℕ) where
-  -- what a comparison shows: P where nothing differs, and otherwise two different strings with one digest
+  -- two different strings of k bytes with one digest
+  pub record Collision (k : ℕ) (a b : List ℕ) : Type 0 where
+    pub first : length a ≡ k
+    pub second : length b ≡ k
+    pub apart : a ≢ b
+    pub one : digest a ≡ digest b
+
+  -- what a comparison of inputs shows: P where nothing differs, and otherwise a collision
   abbrev pub Shown : Type 0 → Diff → Type 0
   Shown P agree = P
-  Shown P (unequal a b) = (a ≢ b) × (digest a ≡ digest b)
+  Shown P (unequal a b) = Collision 64 a b
+
+  -- and of two trees' inputs: the collision stands at one place of both
+  abbrev pub ShownAt : Tree → Tree → Type 0 → Diff → Type 0
+  ShownAt t u P agree = P
+  ShownAt t u P (unequal a b) = Collision 64 a b × OnePlace digest t u a b

@@ -8,5 +8,6 @@ pub mod Tree
 pub mod Folded
 pub mod Letter
 pub mod Difference
+pub mod Hashed
 pub mod Seen
 pub mod Marks

@@ -15,6 +15,13 @@ Holds node s xs = (k : ℕ) → k < length xs → node (s + k) ≡ getD xs k []
 abbrev pub leftOf : ℕ → ℕ → ℕ
 leftOf j p = p - (2 ^ suc j - 1)
 
+-- what the peaks of fewer than 2^k leaves give, one behind the other: a perfect tree, or peak, for each one-bit of their number, tallest first
+unfoldable pub peakwise : (ℕ → List (List ℕ) → List (List ℕ)) → ℕ → List (List ℕ) → List (List ℕ)
+peakwise give zero ds = []
+peakwise give (suc k) ds =
+    elim (leb (2 ^ k) (length ds))
+    [ true ↦ give k (take (2 ^ k) ds) ++ peakwise give k (drop (2 ^ k) ds) | false ↦ peakwise give k ds ]
+
 module _ (digest : List ℕ → List ℕ) where
   -- the root of a perfect tree of 2^h leaves: a parent is the digest of left then right
   unfoldable pub perfectRoot : ℕ → List (List ℕ) → List ℕ
@@ -26,12 +33,9 @@ module _ (digest : List ℕ → List ℕ) where
   perfect zero ds = ds
   perfect (suc h) ds = perfect h (take (2 ^ h) ds) ++ perfect h (drop (2 ^ h) ds) ++ (perfectRoot (suc h) ds ∷ [])
 
-  -- the nodes of fewer than 2^k leaves: a perfect tree, or peak, for each one-bit of their number, tallest first
-  unfoldable pub nodesIn : ℕ → List (List ℕ) → List (List ℕ)
-  nodesIn zero ds = []
-  nodesIn (suc k) ds =
-      elim (leb (2 ^ k) (length ds))
-      [ true ↦ perfect k (take (2 ^ k) ds) ++ nodesIn k (drop (2 ^ k) ds) | false ↦ nodesIn k ds ]
+  -- the nodes of fewer than 2^k leaves: those of each peak
+  abbrev pub nodesIn : ℕ → List (List ℕ) → List (List ℕ)
+  nodesIn k ds = peakwise perfect k ds
 
   -- the nodes of a log, in the order of their positions
   unfoldable pub nodes : List (List ℕ) → List (List ℕ)

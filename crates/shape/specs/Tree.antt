@@ -1,6 +1,6 @@
 -- A tree of digests, over any digest function: its root, the strings that it hashes, and their places.
 use mathlib.Core.Path.{_≡_}
-use mathlib.Core.List.{List, [], _∷_, _++_, map}
+use mathlib.Core.List.{List, [], _∷_, _++_, map, List·Mem}
 use Prim.Native.Nat.{ℕ}
 use lib.ListN.{length}
 
@@ -52,8 +52,10 @@ module _ (digest : List ℕ → List ℕ) where
     cut : (t : Tree) → Pruned t (tip (root t))
     kept : {l m r s : Tree} → Pruned l m → Pruned r s → Pruned (fork l r) (fork m s)
 
-  -- one is hashed in the first tree and the other in the second, at one place
+  -- one is hashed in the first tree and the other in the second, at one place, which is a place of both
   pub record OnePlace (t u : Tree) (a b : List ℕ) : Type 0 where
     pub place : List Turn
+    pub in-first : List·Mem place (places t)
+    pub in-second : List·Mem place (places u)
     pub ours : a ≡ hashedAt t place
     pub theirs : b ≡ hashedAt u place

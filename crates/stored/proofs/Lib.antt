@@ -1,8 +1,6 @@
 -- What the proofs of the functions share, and the laws of stored nodes.
-mod Fields
-mod Fills
+pub mod Fields
 mod Flags
-mod Ends
+pub mod Ends
 pub mod Else
-pub mod Round
 pub mod Only

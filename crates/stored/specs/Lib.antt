@@ -1,4 +1,3 @@
--- Stored nodes: their bytes, what writing one returns, what reading one returns.
+-- Stored nodes: their bytes, and what reading one returns.
 pub mod Nodes
-pub mod Write
 pub mod Read

@@ -1,14 +1,10 @@
-// Stored nodes, written and read.
+// Stored nodes, read.
 //   inner: byte 00, digest; 33 bytes
 //   leaf: byte 01, digest, record length (4 bytes, big-endian), record; 37 + length bytes
 ghost use mathlib.Core.Path.{_≡_};
-ghost use Rattle.digest.specs.Digest.{digestOf};
 ghost use Rattle.wire.specs.Slices.{zeros};
-ghost use Rattle.wire.specs.Writers.{wrote};
 ghost use Rattle.wire.specs.Lent.{lent};
-ghost use Rattle.stored.specs.Write.{leafOutcome, innerOutcome};
 ghost use Rattle.stored.specs.Read.{valuesOf, readOff, readOutcome, recordPart};
-use wire::Written;
 
 // What reading finds, a kind or a refusal: each refusal has a case of its own.
 pub enum Node {
@@ -29,51 +25,6 @@ pub struct Reading {
 
 // Where the record of a leaf begins.
 pub const RECORD_AT: usize = 37;
-
-// Writes a leaf, its digest worked out from the record. Refuses by 3, 6.
-pub fn write_leaf(rec: &[u8], out: &mut [u8]) -> Written
-    ensures { λ r. ⌜ wrote r (now (out .exit)) ≡ leafOutcome digestOf (now (rec .entry)) (now (out .entry)) ⌝ }
-{
-    let n = rec.len();
-    if wire::LONGEST_RECORD < n {
-        return Written {
-            number: 3,
-            length: 0,
-        };
-    }
-    let length = 37 + n;
-    if out.len() < length {
-        return Written {
-            number: 6,
-            length: 0,
-        };
-    }
-    let digest = digest::digest_of(rec);
-    let bytes = digest.bytes;
-    wire::write_byte(out, 0, 1);
-    wire::write_digest(out, 1, bytes);
-    wire::write4(out, 33, n as u32);
-    wire::write_run(out, RECORD_AT, rec);
-    Written { number: 0, length }
-}
-
-// Writes an inner node. Refuses by 6.
-pub fn write_inner(digest: [u8; 32], out: &mut [u8]) -> Written
-    ensures { λ r. ⌜ wrote r (now (out .exit)) ≡ innerOutcome digest (now (out .entry)) ⌝ }
-{
-    if out.len() < 33 {
-        return Written {
-            number: 6,
-            length: 0,
-        };
-    }
-    wire::write_byte(out, 0, 0);
-    wire::write_digest(out, 1, digest);
-    Written {
-        number: 0,
-        length: 33,
-    }
-}
 
 // Reads a node. Refuses by 11 for under 33 bytes, unknown flag, an inner node not of 33, a leaf under 37; then by 3; then by 11 for the
 // exact length.

@@ -84,7 +84,7 @@ fn show_leaf(rec: &[u8], out: &mut [u8]) {
     let numbers = [rec.len() as u64, out.len() as u64];
     say_numbers(b"leaf", &numbers);
     say_digest(b" ", out);
-    show_written(stored::write_leaf(rec, out), out);
+    show_written(stored_writer::write_leaf(rec, out), out);
 }
 
 // The same for the first n bytes as the record, and the first room bytes as the buffer.
@@ -98,7 +98,7 @@ fn try_leaf(bytes: &[u8], n: usize, out: &mut [u8], room: usize) {
 fn show_inner(digest: [u8; 32], out: &mut [u8]) {
     say_number(b"inner ", out.len() as u64);
     say_digest(b" ", out);
-    show_written(stored::write_inner(digest, out), out);
+    show_written(stored_writer::write_inner(digest, out), out);
 }
 
 // The same for the first room bytes as the buffer.

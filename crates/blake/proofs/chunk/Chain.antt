@@ -4,7 +4,8 @@ use mathlib.Core.List.{List}
 use Prim.Native.Nat.{ℕ, suc, _+_, _-_, _*_, _/_, _≤_, _<_, zero-le}
 use native.Mathlib.Omega.{arith}
 use lib.ListN.{length, take, drop}
-use Rattle.compression.specs.Compression.{compressed, wordsOf}
+use Rattle.compression.specs.Compression.{compressed}
+use Rattle.words.specs.Words.{wordsOf}
 use Rattle.blake.specs.Blake.{startFlag, chained, before, chunked}
 
 -- cv holds the chaining words where the block at place `at` begins, and `start` that block's start flag

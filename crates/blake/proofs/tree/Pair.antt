@@ -4,9 +4,10 @@ use mathlib.Core.List.{List, _++_}
 use Prim.Native.Nat.{ℕ, _+_, _-_, _*_, _/_}
 use native.Mathlib.Omega.{arith}
 use lib.ListN.{length, drop, length-append}
-use Rattle.compression.specs.Compression.{compressed, wordsOf, bytesOf}
+use Rattle.compression.specs.Compression.{compressed}
+use Rattle.words.specs.Words.{wordsOf, bytesOf}
 use Rattle.blake.specs.Blake.{startFlag, chained, before, chunked, digested}
-use Rattle.compression.proofs.Blocks.{words-joined}
+use Rattle.words.proofs.Blocks.{words-joined}
 use Rattle.blake.proofs.Sides.{tree-chunk, tree-enough}
 
 -- a whole block by itself is one compression

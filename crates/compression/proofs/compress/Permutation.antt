@@ -7,7 +7,7 @@ use native.Mathlib.Omega.{arith}
 use lib.ListN.{length, getD}
 use lib.Dec.{T, eqb, ltb, ltb→lt}
 use Rattle.compression.specs.Compression.{order, permuted}
-use Rattle.compression.proofs.Builds.{build-at}
+use Rattle.words.proofs.Builds.{build-at}
 
 -- the test of a whole table: every entry is below k
 abbrev inside : ℕ → List ℕ → Bool

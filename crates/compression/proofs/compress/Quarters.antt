@@ -4,8 +4,8 @@ use mathlib.Core.List.{List, [], _∷_}
 use Prim.Native.Nat.{ℕ}
 use lib.ListN.{length, getD}
 use Rattle.compression.specs.Compression.{mixed, mixedAt, columned, diagonaled}
-use Rattle.compression.specs.Build.{build, buildFrom}
-use Rattle.compression.proofs.Builds.{build-self}
+use Rattle.words.specs.Build.{build, buildFrom}
+use Rattle.words.proofs.Builds.{build-self}
 
 -- the words a, b, c, d of s, mixed with the words i and j of m
 abbrev pub at : List ℕ → List ℕ → ℕ → ℕ → ℕ → ℕ → ℕ → ℕ → List ℕ

@@ -1,7 +1,7 @@
 -- `keeper::keeper_store_leaf` meets its contract: what the writer answers, and the length where it is done.
 use native.Mathlib.Omega.{arith}
 use Rattle.digest.specs.Digest.{digestOf}
-use Rattle.stored.specs.Write.{leafOutcome}
+use Rattle.stored_writer.specs.Outcome.{leafOutcome}
 use Rattle.keeper.specs.Nodes.{storeLeafCall}
 use Rattle.keeper.proofs.Laws.{write-refused, write-done}
 use borrow.Author.Needs.{needs}

@@ -1,56 +1,24 @@
--- `letter::take_apart` meets its contract: each refusal is the first of its order that applies, and where none does the fields are those read.
-use mathlib.Core.Path.{_≡_, ap, _∙_}
-use Rattle.order.proofs.Laws.{refuses, passes}
-use Rattle.letter.specs.Bytes.{head, sizeIn, indexIn, statedIn}
-use Rattle.letter.specs.Items.{itemCount}
-use Rattle.letter.specs.Checking.{FieldsOutcome, itemsFor, fieldsOrder, fieldsOutcome}
+-- `letter::take_apart` meets its contract: 7 and 8 come first, and then what is answered behind the size.
+use mathlib.Core.List.{[], _∷_}
+use Rattle.order.specs.Order.{_if_, _under_, _is-not_}
+use Rattle.order.proofs.Laws.{refuses, late}
+use Rattle.letter.specs.Bytes.{head, sizeIn}
+use Rattle.letter.specs.Checking.{behindOrder, fieldsOrder, behindOutcome, fieldsOutcome}
 use borrow.Author.Needs.{needs}
 use Rattle.letter.proofs.take_apart.Statement.{statement}
 use Rattle.letter.proofs.take_apart.Tie as tie
 
--- the number of items is that for the letter's index
-counted : (c : tie.After-item-count) → let a = c .before .before .before .before .before .before .before .args in
-    c .item-count .result ≡ itemsFor (a .n) (a .letter .now)
-unfolding indexIn
-counted c =
-    let a = c .before .before .before .before .before .before .before .args in
-    c .item-count .ensures ∙ ap (itemCount (a .n)) (c .before .before .read82 .ensures)
-
 returns : tie.Need-returns
-unfolding fieldsOutcome fieldsOrder
+unfolding fieldsOutcome fieldsOrder behindOrder
 returns c = refuses 7 _ _ _ (c .fields-refused .ensures) (search needs)
 
 returns-2 : tie.Need-returns-2
-unfolding fieldsOutcome fieldsOrder sizeIn
+unfolding fieldsOutcome fieldsOrder behindOrder sizeIn
 returns-2 c = refuses 8 _ _ _ (c .fields-refused2 .ensures) (search needs)
 
 returns-3 : tie.Need-returns-3
-unfolding fieldsOutcome fieldsOrder sizeIn indexIn
-returns-3 c = refuses 5 _ _ _ (c .fields-refused3 .ensures) (search needs)
-
-returns-4 : tie.Need-returns-4
-unfolding fieldsOutcome fieldsOrder sizeIn indexIn
-returns-4 c = let k = counted (c .before .before) in refuses 15 _ _ _ (c .fields-refused4 .ensures) (search needs)
-
-returns-5 : tie.Need-returns-5
-unfolding fieldsOutcome fieldsOrder sizeIn indexIn statedIn
-returns-5 c = let k = counted (c .before .before .before .before) in refuses 3 _ _ _ (c .fields-refused5 .ensures) (search needs)
-
-returns-6 : tie.Need-returns-6
-unfolding fieldsOutcome fieldsOrder sizeIn indexIn statedIn
-returns-6 c = let k = counted (c .before .before .before .before .before) in refuses 7 _ _ _ (c .fields-refused6 .ensures) (search needs)
-
-returns-7 : tie.Need-returns-7
-unfolding fieldsOutcome fieldsOrder sizeIn indexIn statedIn
-returns-7 c =
-    let k = counted (c .before .before .before .before) in
-    let f : FieldsOutcome = record {
-      number = 0;
-      index = c .before .before .before .before .before .before .read82 .result;
-      start = head;
-      length = c .before .before .read4 .result;
-    } in
-    passes _ _ _ {r = f} (cc) (search needs)
+unfolding fieldsOutcome behindOutcome fieldsOrder sizeIn
+returns-3 c = late _ (7 if _ under head ∷ 8 if _ is-not _ ∷ []) _ _ (search needs) (c .behind-size .ensures)
 
 pub take-apart-spec : {M : Type 1} → statement M
 take-apart-spec =
@@ -62,19 +30,4 @@ take-apart-spec =
     (λ c κs. search needs)
     returns-2
     (λ c κs. search needs)
-    (λ c κs. search needs)
-    returns-3
-    (λ c κs. search needs)
-    (λ c. search needs)
-    (λ c κs. search needs)
-    returns-4
-    (λ c κs. search needs)
-    (λ c. search needs)
-    (λ c κs. search needs)
-    returns-5
-    (λ c. search needs)
-    (λ c. search needs)
-    (λ c. search needs)
-    (λ c κs. search needs)
-    returns-6
-    returns-7)
+    returns-3)

@@ -8,7 +8,7 @@ use Rattle.digest.specs.Digest.{digestOf}
 use Rattle.shape.specs.Sizes.{leaves}
 use Rattle.shape.proofs.Counting.{Counts, counts-leaves, counts-none}
 use Rattle.letter.specs.Items.{workedRoot}
-use Rattle.letter.specs.Checking.{takenApart, fieldsOrder, fieldsOutcome, from7}
+use Rattle.letter.specs.Checking.{takenApart, behindOrder, fieldsOrder, fieldsOutcome, from7}
 use Rattle.letter.proofs.Apart.{Apart, apart, worked-slices}
 use Rattle.letter_checker.specs.Outcome.{CheckOutcome, checkRefused, checkOrder, checkOutcome}
 use Rattle.letter_checker.proofs.Answers.{fields-refuse, root-refuses, all-pass}
@@ -21,14 +21,14 @@ known : (c : tie.After-known-told) → Counts (c .before .before .before .before
 known c = counts-leaves (c .before .before .before .leaf-count .ensures) (c .before .c .given .1)
 
 returns : tie.Need-returns
-unfolding checkOutcome checkOrder from7 fieldsOrder
+unfolding checkOutcome checkOrder from7 fieldsOrder behindOrder
 returns c =
     let k = counts-none (c .before .before .before .before .before .before .args .size) (c .before .before .before .leaf-count .ensures)
     (c .before .enum-told .given .1) in
     refuses 1 _ _ _ (c .check-refused .ensures) (search needs)
 
 returns-2 : tie.Need-returns-2
-unfolding checkOutcome checkOrder from7 fieldsOrder
+unfolding checkOutcome checkOrder from7 fieldsOrder behindOrder
 returns-2 c = let k = known (c .before .before) in refuses 12 _ _ _ (c .check-refused2 .ensures) (search needs)
 
 -- the letter taken apart, for the leaf count of the size

@@ -1,54 +1,43 @@
--- The walk over a whole log: the room that it has, and what it finds, by the definitions that carry no height.
-use mathlib.Core.Path.{_≡_, sym, ap, ap₂, _∙_}
+-- What a walk to the letter's index finds, by the letter's record and items.
+use mathlib.Core.Path.{_≡_, sym, ap, _∙_}
 use mathlib.Core.List.{List}
-use Prim.Native.Nat.{ℕ, suc, _^_, _≤_, _<_}
-use native.Mathlib.Omega.{arith}
+use Prim.Native.Nat.{ℕ, _^_, _≤_, _<_}
 use lib.ListN.{length}
-use lib.Pow.{pow-mono}
 use Rattle.digest.specs.Digest.{digestOf, digest-length}
 use Rattle.wire.specs.Slices.{differ, rowsFrom}
 use Rattle.wire.proofs.Differences.{same-of-differ}
-use Rattle.shape.specs.Sizes.{heightOf}
 use Rattle.shape.specs.Tree.{root, inputs}
 use Rattle.shape.specs.Letter.{way}
-use Rattle.shape.specs.Positions.{peaksIn, peaks, fold}
 use Rattle.shape.specs.Difference.{agree, difference}
-use Rattle.shape.specs.Seen.{seenIn, seen, broken}
-use Rattle.shape.proofs.Heights.{height-holds, height-least}
+use Rattle.shape.specs.Seen.{seen, broken}
 use Rattle.nodes.specs.Nodes.{nodeIn}
 use Rattle.letter.specs.Items.{itemCount, treeOf}
 use Rattle.wire.proofs.Rows.{digests-length, digests-each}
 use Rattle.nodes.proofs.Joined.{node-length}
-use Rattle.letter_finder.specs.declared.walk.Trail.{Trail}
+use Rattle.letter_walk.specs.declared.Trail.{Trail}
+use Rattle.letter_walk.specs.Outcome.{WalkOutcome, walkedOff, walkDone, walkOutcome}
+use Rattle.letter_walk.proofs.Whole.{walk-inside}
 use Rattle.letter_finder.specs.Outcome.{ownRoot}
-use Rattle.difference.specs.Inputs.{told}
-use Rattle.letter_finder.specs.Steps.{lettered, Walkable, Walked}
+use Rattle.inputs.specs.Inputs.{told}
 use Rattle.shape.proofs.Beside.{agreed}
-
--- no sum wraps
-pub whole-room : (h n i : ℕ) → h ≡ heightOf n → i < n → n ≤ 2 ^ 32 → Walkable h n i 0 0
-whole-room h n i e p q =
-    let l : h ≤ 32 = omega (arith, height-least n 32 q) in
-    let m : n ≤ 2 ^ h = rw e (height-holds n) in
-    record { low = l; inside = p; most = m; near = omega (arith, pow-mono {i = h} {j = 32} l); few = omega arith }
 
 -- what the walk finds in the nodes bs, of a letter's record and items
 pub record Whole (bs : List ℕ) (n i : ℕ) (theirs items : List ℕ) (w : Trail) : Type 0 where
-  pub log : w .log .bytes ≡ ownRoot digestOf n bs
+  pub log : w .log .bytes ≡ ownRoot digestOf (nodeIn bs) n
   pub letter : w .letter .bytes ≡ root digestOf (treeOf digestOf n i theirs (rowsFrom 32 0 (itemCount n i) items))
   pub first : told (w .difference)
       ≡ difference (seen digestOf (nodeIn bs) n i) (inputs digestOf (treeOf digestOf n i theirs (rowsFrom 32 0 (itemCount n i) items)))
 
-pub whole : (bs : List ℕ) (n i : ℕ) (theirs items : List ℕ) {h : ℕ} {leaf : List ℕ} {w : Trail} → h ≡ heightOf n → leaf ≡ digestOf theirs
-    → Walked h n i 0 leaf 0 bs items w → Whole bs n i theirs items w
-unfolding peaks seen broken way itemCount
-whole bs n i theirs items {h} {leaf} e l o =
+pub whole : (bs : List ℕ) (n i : ℕ) (theirs items : List ℕ) {leaf : List ℕ} {w : Trail} → i < n → n ≤ 2 ^ 32 → leaf ≡ digestOf theirs
+    → walkedOff w ≡ walkOutcome digestOf (nodeIn bs) n i leaf items → Whole bs n i theirs items w
+unfolding itemCount
+whole bs n i theirs items {leaf} {w} p q l o =
+    let e : walkedOff w ≡ walkDone digestOf (nodeIn bs) n i (digestOf theirs) items =
+    o ∙ walk-inside digestOf (nodeIn bs) n i leaf items p q ∙ ap (λ (x : List ℕ). walkDone digestOf (nodeIn bs) n i x items) l in
     record {
-      log = o .log ∙ ap (λ (k : ℕ). fold digestOf (nodeIn bs) (peaksIn (suc k) n 0)) e;
-      letter = o .letter ∙ ap₂ (λ (k : ℕ) (x : List ℕ). root digestOf (lettered k n i x 0 items)) e l;
-      first =
-          o .first
-          ∙ ap₂ (λ (k : ℕ) (x : List ℕ). difference (seenIn digestOf (nodeIn bs) k n i 0) (inputs digestOf (lettered k n i x 0 items))) e l;
+      log = ap (λ (x : WalkOutcome). x .log) e;
+      letter = ap (λ (x : WalkOutcome). x .letter) e;
+      first = ap (λ (x : WalkOutcome). x .first) e;
     }
 
 -- where two records are the same, the digest of one is that of the other

@@ -1,14 +1,17 @@
 -- Each refusal is the first of its order that applies, part by part; a letter of the right form is compared.
 use mathlib.Core.Path.{sym, _∙_}
 use mathlib.Core.List.{List}
-use Prim.Native.Nat.{ℕ}
+use Prim.Native.Nat.{ℕ, _*_}
 use native.Mathlib.Omega.{arith}
 use Rattle.digest.specs.Digest.{digestOf}
+use lib.ListN.{length}
+use Rattle.order.specs.Order.{_under_}
 use Rattle.order.proofs.Laws.{refuses, passes}
 use Rattle.shape.proofs.Sizes.{size-le}
 use Rattle.log.specs.Outcome.{rootOrder}
 use Rattle.shape.proofs.Counting.{Counts, counts-leaves, counts-none}
 use Rattle.letter.proofs.Apart.{Apart, apart}
+use Rattle.letter_finder.specs.Outcome.{findOutcome}
 use Rattle.letter_finder.proofs.Stages.{find-parts}
 use Rattle.difference.proofs.Settled.{refused-as}
 use Rattle.letter_finder.proofs.Formed.{fields-pass, formed, refused-fields}
@@ -28,42 +31,44 @@ module _ (c : tie.After-known-told) where
   known = counts-leaves (c .before .before .before .leaf-count .ensures) (c .before .c .given .1)
 
 returns : tie.Need-returns
-unfolding rootOrder
+unfolding findOutcome rootOrder
 returns c =
     let counted = c .before .before .before in
     let a = counted .before .before .before .before .before .before .args in
     let k = counts-none (a .size) (counted .leaf-count .ensures) (c .before .enum-told .given .1) in
-    refuses 1 _ _ _ (refused-as _ _ 1 (c .find-refused .ensures)) (search needs) ∙ sym (find-parts digestOf (a .size) _ _ _ _ _)
+    refuses 1 _ _ _ (refused-as _ _ 1 (c .find-refused .ensures)) (search needs) ∙ sym (find-parts digestOf _ (a .size) _ _ _ _ _)
 
 returns-2 : tie.Need-returns-2
-unfolding rootOrder
+unfolding findOutcome rootOrder
 returns-2 c =
     let known-at = c .before .before in
     let k = known known-at in
-    refuses 10 _ _ _ (refused-as _ _ 10 (c .find-refused2 .ensures)) (search needs) ∙ sym (find-parts digestOf (start known-at .args .size) _ _ _ _ _)
+    refuses 10 _ _ _ (refused-as _ _ 10 (c .find-refused2 .ensures)) (search needs)
+    ∙ sym (find-parts digestOf _ (start known-at .args .size) _ _ _ _ _)
 
 mul-if2 : tie.Need-mul-if2
 mul-if2 c = let k = known (c .before) in omega (arith, size-le (n (c .before)))
 
 returns-3 : tie.Need-returns-3
-unfolding rootOrder
+unfolding findOutcome rootOrder
 returns-3 c =
     let known-at = c .before .before .before in
     let k = known known-at in
-    refuses 4 _ _ _ (refused-as _ _ 4 (c .find-refused3 .ensures)) (search needs) ∙ sym (find-parts digestOf (start known-at .args .size) _ _ _ _ _)
+    refuses 4 _ _ _ (refused-as _ _ 4 (c .find-refused3 .ensures)) (search needs)
+    ∙ sym (find-parts digestOf _ (start known-at .args .size) _ _ _ _ _)
 
 returns-4 : tie.Need-returns-4
-unfolding rootOrder
+unfolding findOutcome rootOrder
 returns-4 c =
     let read = c .before .before .before in
     let known-at = read .before .before .before in
     let a = start known-at .args in
     let k = known known-at in
     let e = refused-as (a .first .now) (a .second .now) _ (c .find-refused4 .ensures) in
-    passes _ (rootOrder (a .size) (a .nodes .now)) _
+    passes _ (rootOrder (length (a .nodes .now) under 32 * a .size) (a .size)) _
     (refused-fields (a .letter .now) k (read .take-apart .ensures) (a .first .now) (a .second .now) _ e (c .before .if3 .taken))
     (search needs)
-    ∙ sym (find-parts digestOf (a .size) _ _ _ _ _)
+    ∙ sym (find-parts digestOf _ (a .size) _ _ _ _ _)
 
 -- the fields, where none refuses
 module _ (c : tie.Else3) where
@@ -101,7 +106,7 @@ against-requires c κs =
     (formed-fields s .inside, k .most)
 
 returns-5 : tie.Need-returns-5
-unfolding rootOrder
+unfolding findOutcome rootOrder
 returns-5 c =
     let done = c .before .before .before .before in
     let s = done .before .before .before .before .before .before in
@@ -109,12 +114,12 @@ returns-5 c =
     let k = known (counted-at s) in
     let e = s .before .before .take-apart .ensures in
     let f = formed-fields s in
-    passes _ (rootOrder (a .size) (a .nodes .now)) _
+    passes _ (rootOrder (length (a .nodes .now) under 32 * a .size) (a .size)) _
     (passes _ _ _
     (formed (letter s) k e f (a .nodes .now) (a .rec .now) (a .first .now) (a .second .now) (done .against .ensures))
     (fields-pass (letter s) k e f))
     (search needs)
-    ∙ sym (find-parts digestOf (a .size) _ _ _ _ _)
+    ∙ sym (find-parts digestOf _ (a .size) _ _ _ _ _)
 
 pub find-spec : {M : Type 1} → statement M
 find-spec =

@@ -8,9 +8,10 @@ use Rattle.shape.proofs.Sizes.{size-le}
 use Rattle.shape.specs.Sizes.{leaves}
 use Rattle.shape.proofs.Counting.{Counts, counts-leaves, counts-none}
 use Rattle.digest.specs.Digest.{digestOf}
+use Rattle.nodes.specs.Nodes.{nodeIn}
 use Rattle.letter.specs.Items.{itemCount, foreign}
 use Rattle.letter.proofs.Foreign.{foreign-by}
-use Rattle.letter_writer.specs.Outcome.{writeOrder, writeOutcome}
+use Rattle.letter_writer.specs.Outcome.{writeOrder, writeOver, writeOutcome}
 use Rattle.letter_writer.proofs.Fills.{refused-is, our-length, letter-done, none-applies}
 use borrow.Author.Needs.{needs}
 use Rattle.letter_writer.proofs.write_letter.Statement.{statement}
@@ -25,20 +26,20 @@ abbrev lent : tie.After-known-told → List ℕ
 lent c = c .before .before .before .before .before .before .before .args .out .now
 
 returns : tie.Need-returns
-unfolding writeOutcome writeOrder
+unfolding writeOutcome writeOver writeOrder
 returns c =
     let a = c .before .before .before .before .before .before .before .args in
     let k = counts-none (a .size) (c .before .before .before .leaf-count .ensures) (c .before .enum-told .given .1) in
     refuses 1 _ _ _ (refused-is (a .out .now) (c .write-refused .ensures)) (search needs)
 
 returns-2 : tie.Need-returns-2
-unfolding writeOutcome writeOrder
+unfolding writeOutcome writeOver writeOrder
 returns-2 c =
     let k = known (c .before .before) in
     refuses 5 _ _ _ (refused-is (lent (c .before .before)) (c .write-refused2 .ensures)) (search needs)
 
 returns-3 : tie.Need-returns-3
-unfolding writeOutcome writeOrder
+unfolding writeOutcome writeOver writeOrder
 returns-3 c =
     let k = known (c .before .before .before) in
     refuses 3 _ _ _ (refused-is (lent (c .before .before .before)) (c .write-refused3 .ensures)) (search needs)
@@ -47,7 +48,7 @@ mul-if3 : tie.Need-mul-if3
 mul-if3 c = let k = known (c .before .before) in omega (arith, size-le (c .before .before .before .c .given .0 .0))
 
 returns-4 : tie.Need-returns-4
-unfolding writeOutcome writeOrder
+unfolding writeOutcome writeOver writeOrder
 returns-4 c =
     let k = known (c .before .before .before .before) in
     refuses 4 _ _ _ (refused-is (lent (c .before .before .before .before)) (c .write-refused4 .ensures)) (search needs)
@@ -59,7 +60,7 @@ counted : (c : tie.After-item-count)
 counted c = c .item-count .ensures ∙ rw (known (c .before .before .before .before) .value)
 
 returns-5 : tie.Need-returns-5
-unfolding writeOutcome writeOrder
+unfolding writeOutcome writeOver writeOrder
 returns-5 c =
     let items = c .before .before in
     let told = items .before .before .before .before in
@@ -70,13 +71,13 @@ returns-5 c =
 -- whether the record's digest is the leaf at its place
 compared : (c : tie.After-foreign)
     → let a = c .before .before .before .before .before .before .before .before .before .before .before .before .before .before .args in
-    c .foreign .result ≡ foreign digestOf (a .nodes .now) (a .index) (a .rec .now)
+    c .foreign .result ≡ foreign digestOf (nodeIn (a .nodes .now)) (a .index) (a .rec .now)
 compared c =
     let a = c .before .before .before .before .before .before .before .before .before .before .before .before .before .before .args in
-    foreign-by digestOf (a .nodes .now) (a .index) (a .rec .now) (c .before .digest-of .ensures) (c .foreign .ensures)
+    foreign-by digestOf (nodeIn (a .nodes .now)) (a .index) (a .rec .now) (c .before .digest-of .ensures) (c .foreign .ensures)
 
 returns-6 : tie.Need-returns-6
-unfolding writeOutcome writeOrder
+unfolding writeOutcome writeOver writeOrder
 returns-6 c =
     let d = compared (c .before .before) in
     let items = c .before .before .before .before .before in
@@ -86,7 +87,7 @@ returns-6 c =
     refuses 13 _ _ _ (refused-is (lent told) (c .write-refused6 .ensures)) (search needs)
 
 returns-7 : tie.Need-returns-7
-unfolding writeOutcome writeOrder
+unfolding writeOutcome writeOver writeOrder
 returns-7 c =
     let d = compared (c .before .before .before) in
     let items = c .before .before .before .before .before .before in
@@ -99,7 +100,7 @@ returns-7 c =
     refuses 6 _ _ _ (refused-is (lent told) (c .write-refused7 .ensures)) (search needs)
 
 returns-8 : tie.Need-returns-8
-unfolding writeOutcome writeOrder
+unfolding writeOutcome writeOver writeOrder
 returns-8 c =
     let fifth = c .before .before in
     let fourth = fifth .before .before .before .before in
@@ -112,7 +113,8 @@ returns-8 c =
     let told = below .before in
     let a = told .before .before .before .before .before .before .before .args in
     let k = known told in
-    let z : foreign digestOf (a .nodes .now) (a .index) (a .rec .now) ≡ 0 = sym (compared (fits .before .before)) ∙ fits .before .if5 .left in
+    let z : foreign digestOf (nodeIn (a .nodes .now)) (a .index) (a .rec .now) ≡ 0 =
+    sym (compared (fits .before .before)) ∙ fits .before .if5 .left in
     passes _ _ _
     (letter-done (a .index) (a .rec .now) (a .nodes .now) k (below .if1 .left) (a .out .now) _
     (omega (arith, items .item-count .ensures)) (omega arith)

@@ -6,7 +6,7 @@ use lib.ListN.{length, drop, length-drop}
 use lib.Seq.{length-take-le}
 use Rattle.order.proofs.Laws.{refuses, passes}
 use Rattle.shape.specs.Sizes.{sizeOf, leaves}
-use Rattle.log.specs.Outcome.{appended, appendOrder, appendOutcome}
+use Rattle.log.specs.Outcome.{appended, appendOrder, appendOver, appendOutcome}
 use Rattle.log.specs.declared.Appended.{Appended}
 use Rattle.shape.proofs.Counting.{Counts, counts-leaves, counts-none, grown-size, merges-few, lefts-room}
 use Rattle.log.proofs.Done.{leaf-bytes, new-bytes, new-fits, append-done}
@@ -19,28 +19,28 @@ known : (c : tie.After-known-told) → Counts (c .before .before .before .before
 known c = counts-leaves (c .before .before .before .leaf-count .ensures) (c .before .c .given .1)
 
 returns : tie.Need-returns
-unfolding appendOutcome appendOrder
+unfolding appendOutcome appendOver appendOrder
 returns c =
     let a = c .before .before .before .before .before .before .args in
     let k = counts-none (a .size) (c .before .before .before .leaf-count .ensures) (c .before .enum-told .given .1) in
     refuses 1 _ _ _ (ap (λ (r : Appended). appended r (a .nodes .now)) (c .append-refused .ensures)) (search needs)
 
 returns-2 : tie.Need-returns-2
-unfolding appendOutcome appendOrder
+unfolding appendOutcome appendOver appendOrder
 returns-2 c =
     let a = c .before .before .before .before .before .before .before .before .args in
     let k = known (c .before .before) in
     refuses 2 _ _ _ (ap (λ (r : Appended). appended r (a .nodes .now)) (c .append-refused2 .ensures)) (search needs)
 
 returns-3 : tie.Need-returns-3
-unfolding appendOutcome appendOrder
+unfolding appendOutcome appendOver appendOrder
 returns-3 c =
     let a = c .before .before .before .before .before .before .before .before .before .args in
     let k = known (c .before .before .before) in
     refuses 3 _ _ _ (ap (λ (r : Appended). appended r (a .nodes .now)) (c .append-refused3 .ensures)) (search needs)
 
 returns-4 : tie.Need-returns-4
-unfolding appendOutcome appendOrder
+unfolding appendOutcome appendOver appendOrder
 returns-4 c =
     let a = c .before .before .before .before .before .before .before .before .before .before .before .args in
     let k = known (c .before .before .before .before .before) in
@@ -77,7 +77,7 @@ same-length c =
     ∙ new-fits (a .rec .now) (a .nodes .now) k e (omega arith)
 
 returns-5 : tie.Need-returns-5
-unfolding appendOutcome appendOrder
+unfolding appendOutcome appendOver appendOrder
 returns-5 c =
     let a = c .before .before .before .before .before .before .before .before .before .before .before .before .before .before .before .before .before .args in
     let k = known (c .before .before .before .before .before .before .before .before .before .before .before) in
@@ -116,7 +116,7 @@ same-length-2 c =
     ∙ new-fits (a .rec .now) (a .nodes .now) k e (omega arith)
 
 returns-6 : tie.Need-returns-6
-unfolding appendOutcome appendOrder
+unfolding appendOutcome appendOver appendOrder
 returns-6 c =
     let a = c .before .before .before .before .before .before .before .before .before .before .before .before .before .before .before .before .before .args in
     let k = known (c .before .before .before .before .before .before .before .before .before .before .before) in

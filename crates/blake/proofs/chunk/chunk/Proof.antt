@@ -6,7 +6,8 @@ use native.Mathlib.Nat.{add-sub-cancel-left}
 use native.Mathlib.Omega.{arith}
 use lib.ListN.{length, take, drop, length-drop}
 use lib.Seq.{take-all}
-use Rattle.compression.specs.Compression.{compressed, wordsOf}
+use Rattle.compression.specs.Compression.{compressed}
+use Rattle.words.specs.Words.{wordsOf}
 use Rattle.blake.proofs.chunk.Chain.{Chains, chains-none, chains-more, chains-all}
 use borrow.Author.Needs.{needs}
 use Rattle.blake.proofs.chunk.chunk.Statement.{statement}

@@ -5,9 +5,10 @@ use Prim.Native.Nat.{ℕ, _+_, _-_, _*_}
 use native.Mathlib.Nat.{add-sub-cancel-left}
 use native.Mathlib.Omega.{arith}
 use lib.ListN.{take, drop}
-use Rattle.compression.specs.Compression.{compressed, wordsOf}
+use Rattle.compression.specs.Compression.{compressed}
+use Rattle.words.specs.Words.{wordsOf}
 use Rattle.blake.specs.Steps.{laneOf, laned, compressed4}
-use Rattle.compression.proofs.Fill.{Fills, fills-none, fills-more, fills-all, fills-less}
+use Rattle.words.proofs.Fill.{Fills, fills-none, fills-more, fills-all, fills-less}
 use Rattle.blake.proofs.Laned.{rule, rule-at}
 use borrow.Author.Needs.{needs}
 use Rattle.blake.proofs.lane.compress4.Statement.{statement}

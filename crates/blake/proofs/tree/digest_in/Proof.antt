@@ -2,7 +2,7 @@
 use mathlib.Core.Path.{ap, _∙_}
 use native.Mathlib.Omega.{arith}
 use lib.Pow.{pow-mono}
-use Rattle.compression.specs.Compression.{bytesOf}
+use Rattle.words.specs.Words.{bytesOf}
 use Rattle.blake.specs.Blake.{digested}
 use Rattle.blake.proofs.Sides.{tree-enough}
 use borrow.Author.Needs.{needs}

@@ -2,7 +2,8 @@
 use mathlib.Core.Path.{ap, ap₂, _∙_}
 use mathlib.Core.List.{List, _++_}
 use Prim.Native.Nat.{ℕ, _+_}
-use Rattle.compression.specs.Compression.{compressed, bytesOf}
+use Rattle.compression.specs.Compression.{compressed}
+use Rattle.words.specs.Words.{bytesOf}
 use Rattle.blake.proofs.tree.Pair.{pair-digest}
 use borrow.Author.Needs.{needs}
 use Rattle.blake.proofs.tree.pair_in.Statement.{statement}

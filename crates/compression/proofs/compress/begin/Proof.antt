@@ -1,5 +1,5 @@
 -- The sixteen words, written out, are those that a compression starts from.
-use Rattle.compression.proofs.Blocks.{begun-words}
+use Rattle.compression.proofs.Begun.{begun-words}
 use borrow.Author.Needs.{needs}
 use Rattle.compression.proofs.compress.begin.Statement.{statement}
 use Rattle.compression.proofs.compress.begin.Tie as tie

@@ -4,7 +4,7 @@ use Prim.Native.Nat.{_+_, _-_}
 use lib.ListN.{getD}
 use lib.Bits.{bitXor}
 use Rattle.compression.specs.Compression.{halved}
-use Rattle.compression.proofs.Fill.{Fills, fills-none, fills-more, fills-all}
+use Rattle.words.proofs.Fill.{Fills, fills-none, fills-more, fills-all}
 use borrow.Author.Needs.{needs}
 use Rattle.compression.proofs.compress.halve.Statement.{statement}
 use Rattle.compression.proofs.compress.halve.Tie as tie

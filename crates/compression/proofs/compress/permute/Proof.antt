@@ -5,7 +5,7 @@ use native.Mathlib.Omega.{arith}
 use lib.ListN.{getD}
 use Rattle.compression.specs.Compression.{order, permuted}
 use Rattle.compression.proofs.compress.Permutation.{order-inside}
-use Rattle.compression.proofs.Fill.{Fills, fills-none, fills-more, fills-all}
+use Rattle.words.proofs.Fill.{Fills, fills-none, fills-more, fills-all}
 use borrow.Author.Needs.{needs}
 use Rattle.compression.proofs.compress.permute.Statement.{statement}
 use Rattle.compression.proofs.compress.permute.Tie as tie

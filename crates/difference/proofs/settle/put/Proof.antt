@@ -1,7 +1,7 @@
 -- Two digests written in a row are the input; nothing is written where it does not fit.
 use mathlib.Core.Path.{_≡_, sym, _∙_}
 use lib.ListN.{length, length-map}
-use Rattle.difference.proofs.Lists.{input-64, put-none, put-two}
+use Rattle.difference.proofs.Puts.{input-64, put-none, put-two}
 use borrow.Author.Needs.{needs}
 use Rattle.difference.proofs.settle.put.Statement.{statement}
 use Rattle.difference.proofs.settle.put.Tie as tie

@@ -7,26 +7,22 @@ use Rattle.wire.specs.Slices.{differ, rowsFrom}
 use Rattle.wire.proofs.Differences.{same-of-differ}
 use Rattle.shape.specs.Tree.{root}
 use Rattle.shape.specs.Difference.{Diff}
+use Rattle.nodes.specs.Nodes.{nodeIn}
 use Rattle.letter.specs.Items.{itemCount, foreign, treeOf}
 use Rattle.letter.proofs.Foreign.{foreign-by}
 use Rattle.difference.specs.Outcome.{settled}
 use Rattle.letter_finder.specs.Outcome.{ownRoot, ownOrder}
 use Rattle.letter_finder.specs.Steps.{againstOutcome}
 use Rattle.difference.proofs.Settled.{refused-as}
-use Rattle.letter_finder.proofs.against.Whole.{Whole, whole-room, whole, same-digest, whole-sound}
+use Rattle.letter_finder.proofs.against.Whole.{Whole, whole, same-digest, whole-sound}
 use borrow.Author.Needs.{needs}
 use Rattle.letter_finder.proofs.against.against.Statement.{statement}
 use Rattle.letter_finder.proofs.against.against.Tie as tie
 
-walk-requires : tie.Need-walk-requires
-walk-requires c κs =
-    let s = c .before .before .before .before .before .before .before .before in
-    whole-room _ (s .args .n) (s .args .i) (c .height .ensures) (s .pre .0) (s .pre .1)
-
 -- after the walk
 module _ (c : tie.After-digests-differ) where
   abbrev start : tie.Start
-  start = c .before .before .before .before .before .before .before .before .before .before
+  start = c .before .before .before .before .before .before .before .before .before
 
   abbrev n : ℕ
   n = start .args .n
@@ -35,12 +31,12 @@ module _ (c : tie.After-digests-differ) where
   i = start .args .i
 
   -- what it found
-  known : Whole (start .args .nodes .now) n i (start .args .theirs .now) (start .args .items .now) (c .before .walk .result)
-  known = whole _ n i _ _ (c .before .before .height .ensures) (c .before .before .before .digest-of .ensures) (c .before .walk .ensures)
+  known : Whole (start .args .nodes .now) n i (start .args .theirs .now) (start .args .items .now) (c .before .walk-to .result)
+  known = whole _ n i _ _ (start .pre .0) (start .pre .1) (c .before .before .digest-of .ensures) (c .before .walk-to .ensures)
 
   -- whether the two roots differ
   roots : c .digests-differ .result
-      ≡ differ (ownRoot digestOf n (start .args .nodes .now))
+      ≡ differ (ownRoot digestOf (nodeIn (start .args .nodes .now)) n)
       (root digestOf (treeOf digestOf n i (start .args .theirs .now) (rowsFrom 32 0 (itemCount n i) (start .args .items .now))))
   roots = c .digests-differ .ensures ∙ ap₂ differ (known .log) (known .letter)
 
@@ -60,14 +56,14 @@ own-digest-requires : tie.Need-own-digest-requires
 own-digest-requires c κs =
     let walked = c .before .before .before in
     let s = start walked in
-    same-digest (s .args .rec .now) (s .args .theirs .now) (c .differ .ensures) (walked .before .before .before .digest-of .ensures)
+    same-digest (s .args .rec .now) (s .args .theirs .now) (c .differ .ensures) (walked .before .before .digest-of .ensures)
 
 -- whether the digest of the log's own record is the leaf at its place
 placed : (c : tie.After-foreign) → let a = start (c .before .before .before .before .before) .args in
-    c .foreign .result ≡ foreign digestOf (a .nodes .now) (a .i) (a .rec .now)
+    c .foreign .result ≡ foreign digestOf (nodeIn (a .nodes .now)) (a .i) (a .rec .now)
 placed c =
     let a = start (c .before .before .before .before .before) .args in
-    foreign-by digestOf (a .nodes .now) (a .i) (a .rec .now) (c .before .own-digest .ensures) (c .foreign .ensures)
+    foreign-by digestOf (nodeIn (a .nodes .now)) (a .i) (a .rec .now) (c .before .own-digest .ensures) (c .foreign .ensures)
 
 returns-3 : tie.Need-returns-3
 unfolding againstOutcome ownOrder
@@ -114,7 +110,6 @@ against-spec =
     (tie.spec
     (λ c κs. search needs)
     (λ c κs. search needs)
-    walk-requires
     (λ c κs. search needs)
     (λ c κs. search needs)
     returns

@@ -1,10 +1,8 @@
--- Where no input differs nothing is broken; else the way is looked at from the height of n leaves down.
-use mathlib.Core.Path.{sym, ap, _∙_}
-use Prim.Native.Nat.{ℕ, suc}
+-- Where no input differs nothing is broken; else the way is looked at.
+use mathlib.Core.Path.{sym, _∙_}
 use Rattle.digest.specs.Digest.{digestOf}
-use Rattle.shape.specs.Seen.{brokenIn, broken}
 use Rattle.nodes.specs.Nodes.{nodeIn}
-use Rattle.letter_finder.proofs.against.Whole.{whole-room}
+use Rattle.letter_walk.proofs.Whole.{broken-inside}
 use borrow.Author.Needs.{needs}
 use Rattle.letter_finder.proofs.against.way_broken.Statement.{statement}
 use Rattle.letter_finder.proofs.against.way_broken.Tie as tie
@@ -12,14 +10,11 @@ use Rattle.letter_finder.proofs.against.way_broken.Tie as tie
 returns : tie.Need-returns
 returns c = sym (c .before .before .pre .2 (c .if1 .taken))
 
-on-way-requires : tie.Need-on-way-requires
-on-way-requires c κs = let s = c .before .before .before in whole-room _ (s .args .n) (s .args .i) (c .height .ensures) (s .pre .0) (s .pre .1)
-
 returns-2 : tie.Need-returns-2
-unfolding broken
 returns-2 c =
-    let a = c .before .before .before .before .args in
-    c .on-way .ensures ∙ ap (λ (k : ℕ). brokenIn digestOf (nodeIn (a .nodes .now)) (suc k) (a .n) (a .i) 0) (c .before .height .ensures)
+    let s = c .before .before .before in
+    let a = s .args in
+    c .broken-to .ensures ∙ broken-inside digestOf (nodeIn (a .nodes .now)) (a .n) (a .i) (s .pre .0) (s .pre .1)
 
 pub way-broken-spec : {M : Type 1} → statement M
 way-broken-spec =
@@ -27,5 +22,4 @@ way-broken-spec =
     (tie.spec
     returns
     (λ c κs. search needs)
-    on-way-requires
     returns-2)

@@ -1,0 +1,3 @@
+-- What the proofs of the functions share, and the round trip of stored nodes.
+mod Fills
+pub mod Round

@@ -1,0 +1,2 @@
+-- What writing a stored node returns.
+pub mod Outcome

@@ -1,0 +1,3 @@
+-- Lists by their rule, and words as bytes.
+pub mod Build
+pub mod Words
