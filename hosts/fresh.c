@@ -64,5 +64,5 @@ int still_named(const char *path, int file) {
 }
 
 void fresh_remove(const char *path, int file) {
-    if (still_named(path, file)) unlink(path);
+    if (still_named(path, file) && unlink(path) == 0) sync_folder(path);
 }

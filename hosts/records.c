@@ -36,23 +36,22 @@ static char *path_beside(const char *log, const char *ending) {
     return strcat(strcpy(path, log), ending);
 }
 
-static int make_file(const char *path, const char *name, uint64_t first) {
+static void make_file(Mapped *mapped, int *made, const char *path, const char *name, uint64_t first) {
     uint8_t head[HEAD] = {0};
     memcpy(head, name, NAMED);
     put_at(head + NAMED, first);
     keeper_digest(head, SEALED, head + SEALED, DIGEST);
-    return fresh_file(path, head, HEAD);
+    *mapped = (Mapped){.path = path, .file = fresh_file(path, head, HEAD)};
+    if (mapped->file < 0) fail("cannot make %s: %s", path, errno == EEXIST ? "another file is there" : strerror(errno));
+    *made = 1;
+    if (map_whole(mapped, HEAD) != 0) fail("cannot map %s: %s", path, strerror(errno));
 }
 
-/* Opens a file, or makes it: whether it is there. */
-static int open_file(Records *records, Mapped *mapped, const char *path, const char *name, int asked) {
+/* Whether the name leads to a file, which is then open and mapped. */
+static int open_file(const Records *records, Mapped *mapped, const char *path) {
     *mapped = (Mapped){.path = path, .file = -1};
     mapped->file = open(path, (records->writing ? O_RDWR : O_RDONLY) | O_NOFOLLOW | O_NONBLOCK | O_CLOEXEC);
-    if (mapped->file < 0 && errno == ENOENT && asked) {
-        mapped->file = make_file(path, name, records->first);
-        records->made[mapped == &records->ends] = mapped->file >= 0;
-    }
-    if (mapped->file < 0 && errno == ENOENT && !asked) return 0;
+    if (mapped->file < 0 && errno == ENOENT) return 0;
     if (mapped->file < 0) fail("cannot open %s: %s", path, errno == ELOOP ? "it is a link" : strerror(errno));
     if (map_whole(mapped, HEAD) != 0) fail("%s holds no records: it is no file of %d bytes or more", path, HEAD);
     return 1;
@@ -89,41 +88,44 @@ static void map_to_write(Records *records) {
     if (map_whole(&records->bytes, HEAD) != 0 || map_whole(&records->ends, HEAD) != 0) fail("cannot map %s: %s", records->bytes_path, strerror(errno));
 }
 
-/* Whether an index with ends in it stands there, without the records: one with nothing in it is what a crash has left of making the two, and a file of
-   another kind is somebody else's. */
-static int index_alone(const Records *records) {
-    char start[NAMED];
+/* An index without the records: whether the log has records of it, and so lacks their bytes. Where the log has none, a crash has left it, of making the
+   two or of taking them back: a program that writes takes it away, before the log grows beyond it. A file of another kind is somebody else's. */
+static int index_alone(const Records *records, uint64_t leaves) {
+    uint8_t head[SEALED + DIGEST], seal[DIGEST];
     int file = open(records->ends_path, O_RDONLY | O_NOFOLLOW | O_NONBLOCK | O_CLOEXEC);
     if (file < 0) return 0;
-    int used = pread(file, start, NAMED, 0) == NAMED && memcmp(start, ends_name, NAMED) == 0 && lseek(file, 0, SEEK_END) > HEAD;
+    int ours = pread(file, head, sizeof head, 0) == (ssize_t)sizeof head && memcmp(head, ends_name, NAMED) == 0;
+    if (ours) keeper_digest(head, SEALED, seal, DIGEST);
+    int used = ours && (number_at(head + NAMED) < leaves || memcmp(head + SEALED, seal, DIGEST) != 0);
+    if (ours && !used && records->writing) fresh_remove(records->ends_path, file);
     close(file);
     return used;
 }
 
 /* LOG.index is made first and LOG.records is opened first: so a reader beside the program that makes them finds none, or both. 1 where both are there, 0
    where none is, -1 where the first is missing. */
-static int open_both(Records *records, int asked) {
-    if (asked) {
-        open_file(records, &records->ends, records->ends_path, ends_name, 1);
-        if (!records->made[1]) records->first = first_in(&records->ends, ends_name);
-        return open_file(records, &records->bytes, records->bytes_path, bytes_name, 1);
-    }
-    if (!open_file(records, &records->bytes, records->bytes_path, bytes_name, 0)) return index_alone(records) ? -1 : 0;
-    if (!open_file(records, &records->ends, records->ends_path, ends_name, 0)) fail("%s is missing: take its copy", records->ends_path);
+static int open_both(Records *records, uint64_t leaves) {
+    if (!open_file(records, &records->bytes, records->bytes_path)) return index_alone(records, leaves) ? -1 : 0;
+    if (!open_file(records, &records->ends, records->ends_path)) fail("%s is missing: take its copy", records->ends_path);
     return 1;
 }
 
+static void make_both(Records *records, uint64_t leaves) {
+    make_file(&records->ends, &records->made[1], records->ends_path, ends_name, leaves);
+    make_file(&records->bytes, &records->made[0], records->bytes_path, bytes_name, leaves);
+}
+
 void records_open(Records *records, const char *log, uint64_t leaves, int writing, int asked) {
-    *records = (Records){.first = leaves, .writing = writing};
+    *records = (Records){.bytes.file = -1, .ends.file = -1, .writing = writing};
     records->bytes_path = path_beside(log, ".records");
     records->ends_path = path_beside(log, ".index");
-    records->bytes.file = records->ends.file = -1;
-    int there = open_both(records, asked);
-    if (there < 0) there = open_both(records, asked);
+    int there = open_both(records, leaves);
+    if (there < 0) there = open_both(records, leaves);
     if (there < 0) fail("%s is missing: take its copy", records->bytes_path);
-    records->open = there;
-    if (there) take_count(records, leaves);
-    if (there && writing) map_to_write(records);
+    if (!there && asked) make_both(records, leaves);
+    records->open = there || asked;
+    if (records->open) take_count(records, leaves);
+    if (records->open && writing) map_to_write(records);
 }
 
 void records_close(Records *records) {

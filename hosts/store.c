@@ -151,7 +151,7 @@ static void demand_whole(const Store *store) {
          store->file.path, words, leaves, store->file.path, store->file.path);
 }
 
-/* The one that this program has made and kept nothing in, for the end of the program. */
+/* The one that this program appends to and has kept nothing in: what it has made for it is taken back at the program's end. */
 static Store *unfinished;
 
 static void take_back(void) {
@@ -166,8 +166,6 @@ static int make(Store *store) {
     int file = fresh_file(store->file.path, pages, SIZES);
     if (file < 0) return -1;
     store->made = 1;
-    if (!unfinished) atexit(take_back);
-    unfinished = store;
     return file;
 }
 
@@ -220,6 +218,10 @@ static void map_to_write(Store *store) {
 void store_open(Store *store, const char *path, Purpose purpose, double wait) {
     *store = (Store){.file = {.path = path, .file = -1}};
     store->records.bytes.file = store->records.ends.file = -1;
+    if (purpose == TO_APPEND) {
+        if (!unfinished) atexit(take_back);
+        unfinished = store;
+    }
     open_file(store, purpose, wait);
     look_well(store);
     if (purpose == TO_APPEND) demand_whole(store);
@@ -269,10 +271,10 @@ int store_keep(Store *store) {
     }
     if (records_keep(&store->records) != 0) return -1;
     if (map_sync(&store->file, SIZES + NODE * store->state.size, SIZES + NODE * next.size) != 0) return -1;
+    store_stays(store); /* from here on the size may be on disk, whatever is answered */
     if (write_page(store, &next, 1 - store->page) != 0) return -1;
     store->page = 1 - store->page;
     store->state = store->newest = next;
-    store_stays(store);
     return 0;
 }
 

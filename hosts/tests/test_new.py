@@ -64,7 +64,7 @@ class New(HostTest):
         self.assertEqual(self.names(), ["log.records"])
         (self.folder / "log.records").unlink()
         self.file("log.index", b"mine" * 2000)
-        self.failed("damaged", "append", self.log, "--keep-records", given=b"record")
+        self.failed("another file is there", "append", self.log, "--keep-records", given=b"record")
         self.assertEqual(self.names(), ["log.index"])
 
     def test_many_at_once(self):

@@ -35,17 +35,51 @@ class Records(HostTest):
         self.make(RECORDS[:3])
         self.holds(RECORDS[:3])
         self.assertEqual(self.done("letter", self.log, 1, given=RECORDS[1]), letter_of(RECORDS[:3], 1))
-        self.failed("log.index", "append", self.log, "--keep-records", given=b"record")
+        self.failed("log.index: another file is there", "append", self.log, "--keep-records", given=b"record")
         self.assertEqual(self.ends.read_bytes(), b"see page 7\n")
         self.assertFalse(self.bytes.exists())
 
     def test_records_are_gone(self):
+        """The bytes or the index of records that the log has: nothing is appended, and nothing is made in their place."""
+        for name, gone in (("log.records", self.bytes), ("log.index", self.ends)):
+            self.done("append", self.log, "--keep-records", given=RECORDS[3])
+            whole = gone.read_bytes()
+            gone.unlink()
+            before = self.unchanged()
+            for asked in ((), ("--keep-records",)):
+                self.failed(f"{name} is missing", "append", self.log, *asked, given=b"record")
+            self.failed(f"{name} is missing", "letter", self.log, 0)
+            self.assertEqual(self.unchanged(), before)
+            self.assertFalse(gone.exists())
+            gone.write_bytes(whole)
+
+    def test_crash_between_the_two(self):
+        """An index that a crash has left alone, of making the two or of taking them back: the log goes on without records, and with them later."""
+        self.make(RECORDS[:3])
         self.done("append", self.log, "--keep-records", given=RECORDS[3])
-        self.bytes.unlink()
-        before = self.unchanged()
-        self.failed("log.records is missing", "append", self.log, given=b"record")
-        self.failed("log.records is missing", "letter", self.log, 0)
-        self.assertEqual(self.unchanged(), before)
+        index = self.ends.read_bytes()
+        for left in (index[:HEAD], index):
+            for asked, first in (((), 5), (("--keep-records",), 3)):
+                for path in (self.log, self.bytes, self.ends):
+                    path.unlink(missing_ok=True)
+                self.make(RECORDS[:3])
+                self.ends.write_bytes(left)
+                self.assertFalse(self.object(0, "info", self.log)["keeps_records"])
+                self.done("append", self.log, *asked, "--stream", given=stream_of(RECORDS[3:5]))
+                self.assertEqual(self.ends.exists(), bool(asked))
+                self.done("append", self.log, "--keep-records", given=RECORDS[5])
+                self.assertEqual(self.object(0, "info", self.log)["records_kept_from"], first)
+                self.done("verify", self.log, "--records")
+                self.holds(RECORDS[:6])
+
+    def test_refused_before_anything_is_kept(self):
+        """What was made for a run that kept nothing is taken back, beside a new log and beside an older one."""
+        self.refused(3, "append", self.log, "--keep-records", given=bytes(16385))
+        self.assertEqual(list(self.folder.iterdir()), [])
+        self.make(RECORDS[:3])
+        self.refused(3, "append", self.log, "--keep-records", given=bytes(16385))
+        self.failed("cannot read", "append", self.log, self.folder / "nothing", self.folder / "nowhere", "--keep-records")
+        self.assertEqual(list(self.folder.iterdir()), [self.log])
 
     def test_begun_later(self):
         self.make(RECORDS[:3])
