@@ -36,6 +36,15 @@ find_compiler() {
     need_command "${cc%% *}" $compiler_packages
 }
 
+# compile_host: the host's sources, once for all programs that are linked from them, as many at a time as there are processors
+compile_host() {
+    objects=
+    for file in $host_files; do objects="$objects $work/${file%.c}.o"; done
+    # shellcheck disable=SC2086
+    (cd "$here" && printf '%s\n' $host_files | sed 's/\.c$//' |
+        xargs -P "$(nproc)" -I FILE $cc $flags -I"$top/include" -c FILE.c -o "$work/FILE.o") || die "the host was not compiled"
+}
+
 # compile PROGRAM SOURCE-OR-FLAG..: into target/hosts, and elsewhere than on x86-64 a script in front of it
 compile() {
     program=$out/$1
@@ -117,14 +126,17 @@ set +f
 copy_runner
 mkdir -p "$out"
 say "compiling the host"
+checking=
+[ -z "$looking" ] || { compile_checked & checking=$!; }
+compile_host
 # shellcheck disable=SC2086
-compile keeper $host_files
+compile keeper $objects
 compile bridge "$top/outside/bridge.c"
 was_built target/hosts/keeper "$sum"
 if [ -n "$looking" ]; then
     wait "$looking" || exit 2
-    compile_checked
+    wait "$checking" || exit 2
     # shellcheck disable=SC2086
-    compile lossy -Wl,--wrap=mmap,--wrap=msync,--wrap=pwrite,--wrap=fdatasync,--wrap=fsync $host_files tests/lossy.c
+    compile lossy -Wl,--wrap=mmap,--wrap=msync,--wrap=pwrite,--wrap=fdatasync,--wrap=fsync $objects tests/lossy.c
     was_built target/hosts/lossy "$test_sum"
 fi

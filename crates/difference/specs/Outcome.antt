@@ -21,6 +21,13 @@ pub record FindOutcome : Type 0 where
 abbrev pub found : Found → List ℕ → List ℕ → FindOutcome
 found r first second = record { number = r .number; finding = r .finding; first = first; second = second }
 
+-- what is found, as a number for those who have no names
+abbrev pub findingNumber : Finding → ℕ
+findingNumber Nothing = 0
+findingNumber Same = 1
+findingNumber Records = 2
+findingNumber Pair = 3
+
 -- a refusal: its number, nothing found, and no lent byte changes
 abbrev pub findRefused : List ℕ → List ℕ → ℕ → FindOutcome
 findRefused first second number = record { number = number; finding = Nothing; first = first; second = second }

@@ -1,6 +1,6 @@
 // Two lists of inputs compared from the root down, and then two records: what is found, and the pair that differs.
 ghost use mathlib.Core.Path.{_≡_};
-ghost use Rattle.difference.specs.Outcome.{found, compareOutcome};
+ghost use Rattle.difference.specs.Outcome.{found, findingNumber, compareOutcome};
 ghost use Rattle.difference.specs.declared.Finding.the-variants.{Nothing};
 
 pub mod settle;
@@ -17,6 +17,18 @@ pub enum Finding {
 pub struct Found {
     pub number: u32,
     pub finding: Finding,
+}
+
+// What is found, as a number: 1 for "same", 2 for "records", 3 for "pair".
+pub fn finding_number(finding: Finding) -> u32
+    ensures { λ r. ⌜ r ≡ findingNumber finding ⌝ }
+{
+    match finding {
+        Finding::Nothing => 0,
+        Finding::Same => 1,
+        Finding::Records => 2,
+        Finding::Pair => 3,
+    }
 }
 
 // A refusal.

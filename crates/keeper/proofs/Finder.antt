@@ -5,9 +5,9 @@ use mathlib.Core.List.{List}
 use Prim.Native.Nat.{ℕ}
 use Rattle.digest.specs.Digest.{digestOf}
 use Rattle.difference.specs.declared.Found.{Found}
-use Rattle.difference.specs.Outcome.{FindOutcome, found}
+use Rattle.difference.specs.Outcome.{FindOutcome, found, findingNumber}
 use Rattle.letter_finder.specs.Outcome.{findOutcome}
-use Rattle.keeper.specs.Finder.{findLeft, findingNumber, findCall}
+use Rattle.keeper.specs.Finder.{findLeft, findCall}
 use Rattle.keeper.proofs.Kept.{kept-done, kept-left}
 
 module _ (size : ℕ) (bs rec letter first second : List ℕ) (old : ℕ) (r : Found) (x y : List ℕ)
@@ -21,7 +21,7 @@ module _ (size : ℕ) (bs rec letter first second : List ℕ) (old : ℕ) (r : F
   find-refused k =
       ap (λ (o : FindOutcome). findLeft (o .number) old (o .first) (o .second)) e ∙ sym (kept-left _ _ _ (λ z. k (ap number e ∙ z)))
 
-  -- n is what is found, as C has it
+  -- n is what is found, as a number
   pub find-done : (n : ℕ) → n ≡ findingNumber (r .finding) → r .number ≡ 0 → findLeft 0 n x y ≡ findCall size bs rec letter first second old
   unfolding findCall
   find-done n p z =

@@ -2,17 +2,9 @@
 use mathlib.Core.List.{List}
 use Prim.Native.Nat.{ℕ}
 use Rattle.digest.specs.Digest.{digestOf}
-use Rattle.difference.specs.declared.Finding.{Finding}
-use Rattle.difference.specs.declared.Finding.the-variants.{Nothing, Same, Records, Pair}
+use Rattle.difference.specs.Outcome.{findingNumber}
 use Rattle.letter_finder.specs.Outcome.{findOutcome}
 use Rattle.keeper.specs.Calls.{orKept}
-
--- what is found, as C has it
-abbrev pub findingNumber : Finding → ℕ
-findingNumber Nothing = 0
-findingNumber Same = 1
-findingNumber Records = 2
-findingNumber Pair = 3
 
 -- the number, what is found, and the two buffers, at return: the first is for the log's input, the second for the letter's
 pub record FindLeft : Type 0 where

@@ -5,8 +5,7 @@ ghost use Rattle.shape.specs.Sizes.{sizeAnswer, positionAnswer, countAnswer};
 ghost use Rattle.keeper.specs.Calls.{answered, over, appendLeft, appendCall, filled, digestCall, rootCall, writeLeft};
 ghost use Rattle.keeper.specs.Nodes.{storeLeafCall, storeInnerCall, readLeft, readCall};
 ghost use Rattle.keeper.specs.Letters.{letterWriteCall, checkLeft, letterCheckCall};
-ghost use Rattle.keeper.specs.Finder.{findingNumber, findLeft, findCall};
-use difference::Finding;
+ghost use Rattle.keeper.specs.Finder.{findLeft, findCall};
 use shape::Counted;
 use shape::Placed;
 use shape::Sized;
@@ -215,18 +214,6 @@ pub extern "C" fn keeper_letter_check(
     0
 }
 
-// What the finder finds, as C has it: 1 for "same", 2 for "records", 3 for "pair".
-fn finding_number(finding: Finding) -> u32
-    ensures { λ r. ⌜ r ≡ findingNumber finding ⌝ }
-{
-    match finding {
-        Finding::Nothing => 0,
-        Finding::Same => 1,
-        Finding::Records => 2,
-        Finding::Pair => 3,
-    }
-}
-
 // A letter compared with the log's own nodes and the record that the log has there: what is found, and for a pair the log's input into the first 64 bytes
 // of one buffer, the letter's into those of the other.
 #[no_mangle]
@@ -248,6 +235,6 @@ pub extern "C" fn keeper_find(
         return f.number;
     }
     let finding = f.finding;
-    *found = finding_number(finding);
+    *found = difference::finding_number(finding);
     0
 }

@@ -1,10 +1,10 @@
 -- What is found has the number of its case.
 use mathlib.Core.Path.{_≡_, sym, ap}
 use Rattle.difference.specs.declared.Finding.{Finding}
-use Rattle.keeper.specs.Finder.{findingNumber}
+use Rattle.difference.specs.Outcome.{findingNumber}
 use borrow.Author.Needs.{needs}
-use Rattle.keeper.proofs.finding_number.Statement.{statement}
-use Rattle.keeper.proofs.finding_number.Tie as tie
+use Rattle.difference.proofs.finding_number.Statement.{statement}
+use Rattle.difference.proofs.finding_number.Tie as tie
 
 of-case : {finding known : Finding} → finding ≡ known → findingNumber known ≡ findingNumber finding
 of-case e = ap (λ (f : Finding). findingNumber f) (sym e)
