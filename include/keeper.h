@@ -5,7 +5,7 @@
    What the caller owes, and nothing checks:
    - each pointer is good for its bytes, to read or to write; one of length 0 is not looked at and may be NULL;
    - no length is longer than the object behind its pointer, which C keeps below 2^63 bytes;
-   - a result pointer is not NULL, and is aligned as its type is;
+   - a mode and a result pointer are not NULL, and are aligned as their types are;
    - what a call writes, results too, overlaps nothing else that it is lent: so the finder's two buffers lie apart.
    No proof compares this file with crates/keeper/src/lib.rt; outside/ calls every function by it. */
 #ifndef KEEPER_H
@@ -49,8 +49,18 @@ enum {
     /* finder: a node on the path, within its peak, isn't the digest of its two children: the nodes are damaged; take them from a copy */
     KEEPER_DAMAGED_NODES = 14,
     /* more than 32 items needed: no index of a log does, and no call answers it */
-    KEEPER_TOO_MANY_ITEMS = 15
+    KEEPER_TOO_MANY_ITEMS = 15,
+    /* key not 32 bytes: take the league's key whole, and nothing with it */
+    KEEPER_NOT_A_KEY = 24
 };
+
+/* A mode of the digest: BLAKE3's plain hash where keyed is 0, and the key then means nothing; where it is any other number, BLAKE3's keyed hash under
+   the key. Any bytes are a mode. A log is in one mode from its first record on: its nodes, roots and letters are of no use in another. The bytes of
+   a key are the caller's to wipe. */
+typedef struct keeper_mode {
+    uint32_t keyed;
+    uint8_t key[32];
+} keeper_mode;
 
 /* The kinds of a stored node. */
 enum {
@@ -65,8 +75,14 @@ enum {
     KEEPER_PAIR = 3
 };
 
-/* The digest, BLAKE3's plain hash of 32 bytes, of any bytes, into the first 32 bytes of out. 6. */
-uint32_t keeper_digest(const uint8_t *bytes, size_t bytes_len, uint8_t *out, size_t out_len);
+/* The plain mode: all 36 bytes are 0. It is never refused. */
+uint32_t keeper_mode_plain(keeper_mode *mode);
+
+/* The keyed mode of a key: keyed is 1. 24, and then the mode is as it was. */
+uint32_t keeper_mode_keyed(const uint8_t *key, size_t key_len, keeper_mode *mode);
+
+/* The digest, BLAKE3's hash of 32 bytes in that mode, of any bytes, into the first 32 bytes of out. 6. */
+uint32_t keeper_digest(const keeper_mode *mode, const uint8_t *bytes, size_t bytes_len, uint8_t *out, size_t out_len);
 
 /* The size of so many leaves: 2n minus the number of ones in n. 2. */
 uint32_t keeper_size(uint64_t leaves, uint64_t *size);
@@ -80,15 +96,15 @@ uint32_t keeper_leaf_count(uint64_t size, uint64_t *leaves);
 /* One more record. nodes holds the log's digests, the one at position p in bytes 32p to 32p + 31; bytes beyond the size mean nothing. Writes the
    leaf, then as many parents as the leaf count has trailing ones, from byte 32 x size on. new_size is the size with them, hashes how many
    digests were worked out. 1, 2, 3, 4. */
-uint32_t keeper_append(uint64_t size, const uint8_t *rec, size_t rec_len, uint8_t *nodes, size_t nodes_len,
+uint32_t keeper_append(const keeper_mode *mode, uint64_t size, const uint8_t *rec, size_t rec_len, uint8_t *nodes, size_t nodes_len,
                        uint64_t *new_size, uint64_t *hashes);
 
 /* The root, into the first 32 bytes of out: the rightmost peak, folded leftward. 1, 10, 4, 6. */
-uint32_t keeper_root(uint64_t size, const uint8_t *nodes, size_t nodes_len, uint8_t *out, size_t out_len);
+uint32_t keeper_root(const keeper_mode *mode, uint64_t size, const uint8_t *nodes, size_t nodes_len, uint8_t *out, size_t out_len);
 
 /* A stored leaf, into the first bytes of out: byte 01, digest, record length (4 bytes, big-endian), record. The digest is worked out from the
    record. length is how many bytes were written, 37 + rec_len. 3, 6. */
-uint32_t keeper_store_leaf(const uint8_t *rec, size_t rec_len, uint8_t *out, size_t out_len, size_t *length);
+uint32_t keeper_store_leaf(const keeper_mode *mode, const uint8_t *rec, size_t rec_len, uint8_t *out, size_t out_len, size_t *length);
 
 /* A stored inner node, into the first bytes of out: byte 00, digest. length is how many bytes were written, 33. 12, 6. */
 uint32_t keeper_store_inner(const uint8_t *digest, size_t digest_len, uint8_t *out, size_t out_len, size_t *length);
@@ -101,22 +117,22 @@ uint32_t keeper_read_node(const uint8_t *bytes, size_t bytes_len, uint32_t *kind
 /* The letter of an index, into the first bytes of out: size (8), index (8), record length (4), all big-endian; record; items of 32 bytes. The
    record is the one that was logged there, and nodes the log's. length is how many bytes were written, 20 + rec_len + 32 for each item, of
    which there are at most 32. 1, 5, 3, 4, 15, 13, 6. */
-uint32_t keeper_letter_write(uint64_t size, uint64_t index, const uint8_t *rec, size_t rec_len, const uint8_t *nodes, size_t nodes_len,
-                             uint8_t *out, size_t out_len, size_t *length);
+uint32_t keeper_letter_write(const keeper_mode *mode, uint64_t size, uint64_t index, const uint8_t *rec, size_t rec_len, const uint8_t *nodes,
+                             size_t nodes_len, uint8_t *out, size_t out_len, size_t *length);
 
 /* A letter, checked against a size and a root that the caller trusts: its index, and its record, which is the record_len bytes from
    letter + record_at on. 1, 12, 7 (under 20 bytes), 8, 5, 15, 3, 7 (the exact length), 9. */
-uint32_t keeper_letter_check(uint64_t size, const uint8_t *root, size_t root_len, const uint8_t *letter, size_t letter_len,
+uint32_t keeper_letter_check(const keeper_mode *mode, uint64_t size, const uint8_t *root, size_t root_len, const uint8_t *letter, size_t letter_len,
                              uint64_t *index, size_t *record_at, size_t *record_len);
 
 /* A letter compared with the log, where the log's own nodes accept it: rec is the record that the log has at the letter's index. Compares, from the
    root down, each 64-byte input of the log with that of the letter. At the first difference found is KEEPER_PAIR, with the log's input in the first
-   64 bytes of first and the letter's in those of second: two different strings with one digest. With none it compares the records:
+   64 bytes of first and the letter's in those of second: two different strings with one digest in that mode. With none it compares the records:
    KEEPER_RECORDS if they differ (rec and the letter's are then the two strings), else KEEPER_SAME. The buffers change only for KEEPER_PAIR.
    1, 10, 4, then with the root of its own nodes 7 (under 20 bytes), 8, 5, 15, 3, 7 (the exact length), 9, then for rec 3 and 13, then 14,
    6 (either buffer under 64, whatever the outcome). */
-uint32_t keeper_find(uint64_t size, const uint8_t *nodes, size_t nodes_len, const uint8_t *rec, size_t rec_len, const uint8_t *letter,
-                     size_t letter_len, uint8_t *first, size_t first_len, uint8_t *second, size_t second_len,
+uint32_t keeper_find(const keeper_mode *mode, uint64_t size, const uint8_t *nodes, size_t nodes_len, const uint8_t *rec, size_t rec_len,
+                     const uint8_t *letter, size_t letter_len, uint8_t *first, size_t first_len, uint8_t *second, size_t second_len,
                      uint32_t *found);
 
 #ifdef __cplusplus
