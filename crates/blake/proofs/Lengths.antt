@@ -11,8 +11,8 @@ use lib.ListN.{length, getD, List·getD-eq-default}
 use Rattle.words.specs.Build.{build}
 use Rattle.words.proofs.Builds.{build-length, build-at}
 use Rattle.compression.specs.Compression.{starting, compressed, halved}
-use Rattle.words.specs.Words.{byteOf, bytesOf}
-use Rattle.blake.specs.Blake.{rootNode, chained, chunked, treeOf, digested, plainHash}
+use Rattle.words.specs.Words.{byteOf, bytesOf, wordsOf}
+use Rattle.blake.specs.Blake.{rootNode, keyedFlag, chained, chunked, treeOf, digested, plainHash, keyedHash, hashIn}
 
 pub compressed-length : (cv m : List ℕ) (n len flags : ℕ) → length (compressed cv m n len flags) ≡ 8
 unfolding compressed halved
@@ -46,10 +46,12 @@ pub digested-byte : (key : List ℕ) (flag : ℕ) (bs : List ℕ) (k : ℕ) → 
 unfolding digested
 digested-byte key flag bs k = bytes-small (treeOf key flag rootNode 0 bs) k
 
-pub plain-length : (bs : List ℕ) → length (plainHash bs) ≡ 32
-unfolding plainHash
-plain-length bs = digested-length starting 0 bs
+pub hash-length : (keyed : ℕ) (key bs : List ℕ) → length (hashIn keyed key bs) ≡ 32
+unfolding hashIn plainHash keyedHash
+hash-length zero key bs = digested-length starting 0 bs
+hash-length (suc _) key bs = digested-length (wordsOf 8 key) keyedFlag bs
 
-pub plain-byte : (bs : List ℕ) (k : ℕ) → getD (plainHash bs) k 0 < 256
-unfolding plainHash
-plain-byte bs k = digested-byte starting 0 bs k
+pub hash-byte : (keyed : ℕ) (key bs : List ℕ) (k : ℕ) → getD (hashIn keyed key bs) k 0 < 256
+unfolding hashIn plainHash keyedHash
+hash-byte zero key bs k = digested-byte starting 0 bs k
+hash-byte (suc _) key bs k = digested-byte (wordsOf 8 key) keyedFlag bs k

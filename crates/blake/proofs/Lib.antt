@@ -2,4 +2,5 @@
 mod Sides
 pub mod Rule
 pub mod Lengths
+mod Modes
 mod Laned

@@ -7,7 +7,7 @@ use lib.Dec.{leb}
 use Rattle.compression.specs.Compression.{compressed, starting}
 use Rattle.words.specs.Words.{bytesOf, wordsOf}
 
--- the flags CHUNK_START, CHUNK_END, PARENT and ROOT
+-- the flags CHUNK_START, CHUNK_END, PARENT, ROOT and KEYED_HASH
 abbrev pub chunkStart : ℕ
 chunkStart = 1
 
@@ -19,6 +19,9 @@ parentNode = 4
 
 abbrev pub rootNode : ℕ
 rootNode = 8
+
+abbrev pub keyedFlag : ℕ
+keyedFlag = 16
 
 -- ---- Chunks. `key` is the words that chaining begins with and `flag` a flag on every compression: together, the mode
 
@@ -72,3 +75,12 @@ digested key flag bs = bytesOf (treeOf key flag rootNode 0 bs)
 -- the plain hash
 unfoldable pub plainHash : List ℕ → List ℕ
 plainHash bs = digested starting 0 bs
+
+-- the keyed hash: the words of the key, 32 bytes, in place of the starting words, and its flag on every compression
+unfoldable pub keyedHash : List ℕ → List ℕ → List ℕ
+keyedHash key bs = digested (wordsOf 8 key) keyedFlag bs
+
+-- ---- A mode as a number and a key: 0 is plain, and the key then means nothing; any other number is keyed
+unfoldable pub hashIn : ℕ → List ℕ → List ℕ → List ℕ
+hashIn zero key bs = plainHash bs
+hashIn (suc _) key bs = keyedHash key bs

@@ -1,10 +1,12 @@
--- What the code's own steps are called, which no public contract cites: four chunks side by side, and what the tree's function asks.
+-- What the code's own steps are called, which no public contract cites: four chunks side by side, what the tree's function asks, and the words and
+-- the flag that a mode hands to it.
 use mathlib.Core.List.{List}
-use Prim.Native.Nat.{ℕ, _+_, _*_, _/_, _%_, _^_, _≤_}
+use Prim.Native.Nat.{ℕ, zero, suc, _+_, _*_, _/_, _%_, _^_, _≤_}
 use lib.ListN.{getD, take, drop}
 use Rattle.words.specs.Build.{build}
-use Rattle.compression.specs.Compression.{compressed}
+use Rattle.compression.specs.Compression.{compressed, starting}
 use Rattle.words.specs.Words.{wordsOf}
+use Rattle.blake.specs.Blake.{keyedFlag}
 
 -- ---- Four lists of eight words in one: word i of lane k is at 8 * k + i
 
@@ -33,3 +35,13 @@ pub record Room (h flag root n len : ℕ) : Type 0 where
   pub last : root ≤ 8
   pub bytes : len ≤ 1024 * 2 ^ h
   pub chunks : n + 2 ^ h ≤ 2 ^ 54
+
+-- ---- The words that chaining begins with, and the flag on every compression, of a mode
+
+unfoldable pub wordsIn : ℕ → List ℕ → List ℕ
+wordsIn zero key = starting
+wordsIn (suc _) key = wordsOf 8 key
+
+unfoldable pub flagIn : ℕ → ℕ
+flagIn zero = 0
+flagIn (suc _) = keyedFlag

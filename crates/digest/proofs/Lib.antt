@@ -1,2 +1,3 @@
 -- What follows from the promise.
+pub mod Keys
 pub mod Only

@@ -1,2 +1,3 @@
--- The promise of the digest.
+-- The promise of the digest, and its modes.
 pub mod Digest
+pub mod Modes

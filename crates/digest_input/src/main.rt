@@ -11,7 +11,8 @@ use libc::STDOUT_FILENO;
 fn digits(bytes: &[u8]) -> [u8; 64]
     ensures { λ r. ⌜ r ≡ hexOf (digestOf (now (bytes .entry))) ⌝ }
 {
-    let d = digest::digest_of(bytes);
+    let mode = digest::plain();
+    let d = digest::digest_of(&mode, bytes);
     let b = d.bytes;
     hex::digits_of(b)
 }

@@ -26,7 +26,8 @@ fn show_lengths(bytes: &[u8; 2049]) {
 
 // The line of two digests, after its label.
 fn show_pair(label: &[u8], left: Digest, right: Digest) {
-    let d = digest::digest_of_pair(left, right);
+    let mode = digest::plain();
+    let d = digest::digest_of_pair(&mode, left, right);
     let bytes = d.bytes;
     say_hex(label, bytes);
     end_line();
@@ -34,8 +35,9 @@ fn show_pair(label: &[u8], left: Digest, right: Digest) {
 
 // A line for each pair of the digests of no byte and of the byte 0.
 fn show_pairs() {
-    let none = digest::digest_of(b"");
-    let one = digest::digest_of(b"\0");
+    let mode = digest::plain();
+    let none = digest::digest_of(&mode, b"");
+    let one = digest::digest_of(&mode, b"\0");
     show_pair(b"pair 0 1 ", none, one);
     show_pair(b"pair 1 0 ", one, none);
     show_pair(b"pair 1 1 ", one, one);

@@ -11,15 +11,18 @@ use runs::lines::say_numbers;
 
 // Record k appended to a log of at most nine; the new size.
 pub(crate) fn grow(size: u64, k: usize, nodes: &mut [u8; 512]) -> u64 {
+    let mode = digest::plain();
     let rec = record_of(k);
-    let a = log::append(size, front(&rec, length_of(k)), nodes);
+    let a = log::append(&mode, size, front(&rec, length_of(k)), nodes);
     a.size
 }
 
 // The letter of an index, in the first bytes of an output; its length.
 pub(crate) fn letter_of(size: u64, index: usize, nodes: &[u8; 512], out: &mut [u8]) -> usize {
+    let mode = digest::plain();
     let rec = record_of(index);
     let w = letter_writer::write_letter(
+        &mode,
         size,
         index as u64,
         front(&rec, length_of(index)),
@@ -83,11 +86,13 @@ fn show_changes(first: &[u8; 80], second: &[u8; 80]) {
 
 // What the finder makes of a letter, with parts of two buffers.
 pub(crate) fn show_find(size: u64, nodes: &[u8], rec: &[u8], letter: &[u8], one: u64, two: u64) {
+    let mode = digest::plain();
     let mut first = buffer_of(5);
     let mut second = buffer_of(6);
     let room = room_of(one);
     let other_room = room_of(two);
     let f = letter_finder::find(
+        &mode,
         size,
         nodes,
         rec,

@@ -6,7 +6,7 @@ use Prim.Native.Nat.{ℕ, _≤_, _<_}
 use native.Mathlib.Omega.{arith}
 use lib.ListN.{length}
 use borrow.Author.Needs.{needs}
-use Rattle.digest.specs.Digest.{digestOf, digest-length}
+use Rattle.digest.specs.Digest.{digestIn, digest-length}
 use Rattle.order.proofs.Laws.{refuses, passes}
 use Rattle.wire.specs.Slices.{splice, written}
 use Rattle.wire.specs.declared.Written.{Written}
@@ -20,18 +20,18 @@ use Rattle.keeper.proofs.Kept.{kept-done, kept-left}
 
 -- ---- Append
 
-module _ (size : ℕ) (rec bs : List ℕ) (oldSize oldHashes : ℕ) (r : Appended) (x : List ℕ)
-    (e : appended r x ≡ appendOutcome digestOf size rec bs) where
+module _ (mode : List ℕ) (size : ℕ) (rec bs : List ℕ) (oldSize oldHashes : ℕ) (r : Appended) (x : List ℕ)
+    (e : appended r x ≡ appendOutcome (digestIn mode) size rec bs) where
   abbrev number : AppendOutcome → ℕ
   number o = o .number
 
   -- a refusal leaves what was there; a done append puts its two results behind the pointers
-  pub append-refused : r .number ≢ 0 → appendLeft (r .number) oldSize oldHashes x ≡ appendCall size rec bs oldSize oldHashes
+  pub append-refused : r .number ≢ 0 → appendLeft (r .number) oldSize oldHashes x ≡ appendCall mode size rec bs oldSize oldHashes
   unfolding appendCall
   append-refused k =
       ap (λ (o : AppendOutcome). appendLeft (o .number) oldSize oldHashes (o .bytes)) e ∙ sym (kept-left _ _ _ (λ z. k (ap number e ∙ z)))
 
-  pub append-done : r .number ≡ 0 → appendLeft 0 (r .size) (r .hashes) x ≡ appendCall size rec bs oldSize oldHashes
+  pub append-done : r .number ≡ 0 → appendLeft 0 (r .size) (r .hashes) x ≡ appendCall mode size rec bs oldSize oldHashes
   unfolding appendCall
   append-done z =
       ap (λ (n : ℕ). appendLeft n (r .size) (r .hashes) x) (sym z) ∙ e ∙ sym (kept-done _ _ _ (sym (ap number e) ∙ z))
@@ -51,33 +51,33 @@ handed-done : (d out y : List ℕ) → length d ≡ 32 → 32 ≤ length out →
 unfolding handed
 handed-done d out y l h w = passes _ _ _ (ap (filled 0) (fits d out y l h w)) (search needs)
 
-module _ (bs out : List ℕ) where
-  pub digest-short : length out < 32 → filled 6 out ≡ digestCall bs out
+module _ (mode bs out : List ℕ) where
+  pub digest-short : length out < 32 → filled 6 out ≡ digestCall mode bs out
   unfolding digestCall
-  digest-short h = handed-short (digestOf bs) out h
+  digest-short h = handed-short (digestIn mode bs) out h
 
-  pub digest-done : (d y : List ℕ) → d ≡ digestOf bs → 32 ≤ length out → y ≡ written 0 d out → filled 0 y ≡ digestCall bs out
+  pub digest-done : (d y : List ℕ) → d ≡ digestIn mode bs → 32 ≤ length out → y ≡ written 0 d out → filled 0 y ≡ digestCall mode bs out
   unfolding digestCall
-  digest-done d y p h w = handed-done (digestOf bs) out y (digest-length bs) h (w ∙ ap (λ (l : List ℕ). written 0 l out) p)
+  digest-done d y p h w = handed-done (digestIn mode bs) out y (digest-length mode bs) h (w ∙ ap (λ (l : List ℕ). written 0 l out) p)
 
-module _ (size : ℕ) (bs out : List ℕ) (r : Rooted) (e : rooted r ≡ rootOutcome digestOf size bs) where
+module _ (mode : List ℕ) (size : ℕ) (bs out : List ℕ) (r : Rooted) (e : rooted r ≡ rootOutcome (digestIn mode) size bs) where
   abbrev rootNumber : RootOutcome → ℕ
   rootNumber o = o .number
 
   -- the log refuses; the output is short; the root is written
-  pub root-refused : r .number ≢ 0 → filled (r .number) out ≡ rootCall size bs out
+  pub root-refused : r .number ≢ 0 → filled (r .number) out ≡ rootCall mode size bs out
   unfolding rootCall
   root-refused k = ap (λ (o : RootOutcome). filled (o .number) out) e ∙ sym (kept-left _ _ _ (λ z. k (ap rootNumber e ∙ z)))
 
-  given : {y : Filled} → r .number ≡ 0 → y ≡ handed (r .root .bytes) out → y ≡ rootCall size bs out
+  given : {y : Filled} → r .number ≡ 0 → y ≡ handed (r .root .bytes) out → y ≡ rootCall mode size bs out
   unfolding rootCall
   given z f = f ∙ ap (λ (o : RootOutcome). handed (o .root) out) e ∙ sym (kept-done _ _ _ (sym (ap rootNumber e) ∙ z))
 
-  pub root-short : r .number ≡ 0 → length out < 32 → filled 6 out ≡ rootCall size bs out
+  pub root-short : r .number ≡ 0 → length out < 32 → filled 6 out ≡ rootCall mode size bs out
   root-short z h = given z (handed-short (r .root .bytes) out h)
 
   pub root-done : (y : List ℕ) → r .number ≡ 0 → 32 ≤ length out → length (r .root .bytes) ≡ 32
-      → y ≡ written 0 (r .root .bytes) out → filled 0 y ≡ rootCall size bs out
+      → y ≡ written 0 (r .root .bytes) out → filled 0 y ≡ rootCall mode size bs out
   root-done y z h l w = given z (handed-done (r .root .bytes) out y l h w)
 
 -- ---- A writer

@@ -4,7 +4,7 @@ use mathlib.Core.List.{List, [], _∷_}
 use Prim.Native.Nat.{ℕ}
 use lib.Dec.{eqb}
 use lib.ListN.{length}
-use Rattle.digest.specs.Digest.{digestOf}
+use Rattle.digest.specs.Digest.{digestIn}
 use Rattle.order.specs.Order.{Refusal, _if_, _under_, verdict}
 use Rattle.shape.specs.Answers.{Answer}
 use Rattle.wire.specs.Slices.{splice}
@@ -33,9 +33,9 @@ abbrev pub appendLeft : ℕ → ℕ → ℕ → List ℕ → AppendOutcome
 appendLeft number size hashes bs = record { number = number; size = size; hashes = hashes; bytes = bs }
 
 -- the result variables held `oldSize` and `oldHashes`
-unfoldable pub appendCall : ℕ → List ℕ → List ℕ → ℕ → ℕ → AppendOutcome
-appendCall size rec bs oldSize oldHashes =
-    let o = appendOutcome digestOf size rec bs in
+unfoldable pub appendCall : List ℕ → ℕ → List ℕ → List ℕ → ℕ → ℕ → AppendOutcome
+appendCall mode size rec bs oldSize oldHashes =
+    let o = appendOutcome (digestIn mode) size rec bs in
     orKept (o .number) o (appendLeft (o .number) oldSize oldHashes (o .bytes))
 
 -- ---- A digest written out
@@ -57,13 +57,13 @@ unfoldable pub handed : List ℕ → List ℕ → Filled
 handed digest out = verdict (λ number. filled number out) (outOrder out) (filled 0 (splice 0 digest out))
 
 -- the digest of any bytes
-unfoldable pub digestCall : List ℕ → List ℕ → Filled
-digestCall bs out = handed (digestOf bs) out
+unfoldable pub digestCall : List ℕ → List ℕ → List ℕ → Filled
+digestCall mode bs out = handed (digestIn mode bs) out
 
 -- the root, where there is one
-unfoldable pub rootCall : ℕ → List ℕ → List ℕ → Filled
-rootCall size bs out =
-    let o = rootOutcome digestOf size bs in
+unfoldable pub rootCall : List ℕ → ℕ → List ℕ → List ℕ → Filled
+rootCall mode size bs out =
+    let o = rootOutcome (digestIn mode) size bs in
     orKept (o .number) (handed (o .root) out) (filled (o .number) out)
 
 -- ---- A writer

@@ -1,7 +1,7 @@
 -- What the call of the finder answers, and what it leaves behind each pointer: the finder's outcome, with what was there kept on a refusal.
 use mathlib.Core.List.{List}
 use Prim.Native.Nat.{ℕ}
-use Rattle.digest.specs.Digest.{digestOf}
+use Rattle.digest.specs.Digest.{digestIn}
 use Rattle.difference.specs.Outcome.{findingNumber}
 use Rattle.letter_finder.specs.Outcome.{findOutcome}
 use Rattle.keeper.specs.Calls.{orKept}
@@ -17,7 +17,7 @@ abbrev pub findLeft : ℕ → ℕ → List ℕ → List ℕ → FindLeft
 findLeft number found first second = record { number = number; found = found; first = first; second = second }
 
 -- the result variable held `old`
-unfoldable pub findCall : ℕ → List ℕ → List ℕ → List ℕ → List ℕ → List ℕ → ℕ → FindLeft
-findCall size bs rec letter first second old =
-    let o = findOutcome digestOf size bs rec letter first second in
+unfoldable pub findCall : List ℕ → ℕ → List ℕ → List ℕ → List ℕ → List ℕ → List ℕ → ℕ → FindLeft
+findCall mode size bs rec letter first second old =
+    let o = findOutcome (digestIn mode) size bs rec letter first second in
     orKept (o .number) (findLeft 0 (findingNumber (o .finding)) (o .first) (o .second)) (findLeft (o .number) old (o .first) (o .second))

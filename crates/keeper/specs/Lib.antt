@@ -1,5 +1,6 @@
 -- What the calls for C answer and leave behind their pointers.
 pub mod Calls
+pub mod Modes
 pub mod Nodes
 pub mod Letters
 pub mod Finder

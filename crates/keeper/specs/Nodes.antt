@@ -3,7 +3,7 @@
 use mathlib.Core.List.{List, [], _∷_}
 use Prim.Native.Nat.{ℕ}
 use lib.ListN.{length}
-use Rattle.digest.specs.Digest.{digestOf}
+use Rattle.digest.specs.Digest.{digestIn}
 use Rattle.order.specs.Order.{_if_, _is-not_, verdict}
 use Rattle.wire.specs.Slices.{splice}
 use Rattle.wire.specs.Writers.{WriteOutcome}
@@ -14,8 +14,8 @@ use Rattle.keeper.specs.Calls.{orKept, outOrder, writeLeft, writeCall}
 -- ---- Written
 
 -- the leaf of a record; the length variable held `old`
-unfoldable pub storeLeafCall : List ℕ → List ℕ → ℕ → WriteOutcome
-storeLeafCall rec out old = writeCall (leafOutcome digestOf rec out) old
+unfoldable pub storeLeafCall : List ℕ → List ℕ → List ℕ → ℕ → WriteOutcome
+storeLeafCall mode rec out old = writeCall (leafOutcome (digestIn mode) rec out) old
 
 -- the inner node of a digest: 12 where it is not 32 bytes, then as the writer answers
 unfoldable pub storeInnerCall : List ℕ → List ℕ → ℕ → WriteOutcome

@@ -3,6 +3,7 @@
 ghost use mathlib.Core.Path.{_≡_};
 ghost use Rattle.shape.specs.Sizes.{sizeAnswer, positionAnswer, countAnswer};
 ghost use Rattle.keeper.specs.Calls.{answered, over, appendLeft, appendCall, filled, digestCall, rootCall, writeLeft};
+ghost use Rattle.keeper.specs.Modes.{plainCall, keyedCall};
 ghost use Rattle.keeper.specs.Nodes.{storeLeafCall, storeInnerCall, readLeft, readCall};
 ghost use Rattle.keeper.specs.Letters.{letterWriteCall, checkLeft, letterCheckCall};
 ghost use Rattle.keeper.specs.Finder.{findLeft, findCall};
@@ -11,15 +12,39 @@ use shape::Placed;
 use shape::Sized;
 use stored::Node;
 
+// The plain mode.
+#[no_mangle]
+pub extern "C" fn keeper_mode_plain(mode: &mut [u8; 36]) -> u32
+    ensures { λ r. ⌜ filled r (now (mode .exit)) ≡ plainCall ⌝ }
+{
+    let m = digest::plain();
+    *mode = m;
+    0
+}
+
+// The keyed mode of a key.
+#[no_mangle]
+pub extern "C" fn keeper_mode_keyed(key: &[u8], mode: &mut [u8; 36]) -> u32
+    ensures { λ r. ⌜ filled r (now (mode .exit)) ≡ keyedCall (now (key .entry)) (now (mode .entry)) ⌝ }
+{
+    let k = digest::keyed(key);
+    if k.number != 0 {
+        return k.number;
+    }
+    let m = k.mode;
+    *mode = m;
+    0
+}
+
 // The digest of bytes, into the first 32 bytes of out.
 #[no_mangle]
-pub extern "C" fn keeper_digest(bytes: &[u8], out: &mut [u8]) -> u32
-    ensures { λ r. ⌜ filled r (now (out .exit)) ≡ digestCall (now (bytes .entry)) (now (out .entry)) ⌝ }
+pub extern "C" fn keeper_digest(mode: &[u8; 36], bytes: &[u8], out: &mut [u8]) -> u32
+    ensures { λ r. ⌜ filled r (now (out .exit)) ≡ digestCall (now (mode .entry)) (now (bytes .entry)) (now (out .entry)) ⌝ }
 {
     if out.len() < 32 {
         return 6;
     }
-    let d = digest::digest_of(bytes);
+    let d = digest::digest_of(mode, bytes);
     let b = d.bytes;
     wire::write_digest(out, 0, b);
     0
@@ -67,6 +92,7 @@ pub extern "C" fn keeper_leaf_count(size: u64, leaves: &mut u64) -> u32
 // One more record: the new nodes behind the old, the new size and the hash count.
 #[no_mangle]
 pub extern "C" fn keeper_append(
+    mode: &[u8; 36],
     size: u64,
     rec: &[u8],
     nodes: &mut [u8],
@@ -74,9 +100,9 @@ pub extern "C" fn keeper_append(
     hashes: &mut u64,
 ) -> u32
     ensures { λ r. ⌜ appendLeft r (now («new_size» .exit)) (now (hashes .exit)) (now (nodes .exit))
-        ≡ appendCall size (now (rec .entry)) (now (nodes .entry)) (now («new_size» .entry)) (now (hashes .entry)) ⌝ }
+        ≡ appendCall (now (mode .entry)) size (now (rec .entry)) (now (nodes .entry)) (now («new_size» .entry)) (now (hashes .entry)) ⌝ }
 {
-    let a = log::append(size, rec, nodes);
+    let a = log::append(mode, size, rec, nodes);
     if a.number != 0 {
         return a.number;
     }
@@ -87,10 +113,10 @@ pub extern "C" fn keeper_append(
 
 // The root, into the first 32 bytes of out.
 #[no_mangle]
-pub extern "C" fn keeper_root(size: u64, nodes: &[u8], out: &mut [u8]) -> u32
-    ensures { λ r. ⌜ filled r (now (out .exit)) ≡ rootCall size (now (nodes .entry)) (now (out .entry)) ⌝ }
+pub extern "C" fn keeper_root(mode: &[u8; 36], size: u64, nodes: &[u8], out: &mut [u8]) -> u32
+    ensures { λ r. ⌜ filled r (now (out .exit)) ≡ rootCall (now (mode .entry)) size (now (nodes .entry)) (now (out .entry)) ⌝ }
 {
-    let r = log::root(size, nodes);
+    let r = log::root(mode, size, nodes);
     if r.number != 0 {
         return r.number;
     }
@@ -105,11 +131,16 @@ pub extern "C" fn keeper_root(size: u64, nodes: &[u8], out: &mut [u8]) -> u32
 
 // The stored leaf of a record, into the first bytes of out.
 #[no_mangle]
-pub extern "C" fn keeper_store_leaf(rec: &[u8], out: &mut [u8], length: &mut usize) -> u32
+pub extern "C" fn keeper_store_leaf(
+    mode: &[u8; 36],
+    rec: &[u8],
+    out: &mut [u8],
+    length: &mut usize,
+) -> u32
     ensures { λ r. ⌜ writeLeft r (now (length .exit)) (now (out .exit))
-        ≡ storeLeafCall (now (rec .entry)) (now (out .entry)) (now (length .entry)) ⌝ }
+        ≡ storeLeafCall (now (mode .entry)) (now (rec .entry)) (now (out .entry)) (now (length .entry)) ⌝ }
 {
-    let w = stored_writer::write_leaf(rec, out);
+    let w = stored_writer::write_leaf(mode, rec, out);
     if w.number != 0 {
         return w.number;
     }
@@ -172,6 +203,7 @@ pub extern "C" fn keeper_read_node(
 // The letter of an index, into the first bytes of out.
 #[no_mangle]
 pub extern "C" fn keeper_letter_write(
+    mode: &[u8; 36],
     size: u64,
     index: u64,
     rec: &[u8],
@@ -180,9 +212,9 @@ pub extern "C" fn keeper_letter_write(
     length: &mut usize,
 ) -> u32
     ensures { λ r. ⌜ writeLeft r (now (length .exit)) (now (out .exit))
-        ≡ letterWriteCall size index (now (rec .entry)) (now (nodes .entry)) (now (out .entry)) (now (length .entry)) ⌝ }
+        ≡ letterWriteCall (now (mode .entry)) size index (now (rec .entry)) (now (nodes .entry)) (now (out .entry)) (now (length .entry)) ⌝ }
 {
-    let w = letter_writer::write_letter(size, index, rec, nodes, out);
+    let w = letter_writer::write_letter(mode, size, index, rec, nodes, out);
     if w.number != 0 {
         return w.number;
     }
@@ -193,6 +225,7 @@ pub extern "C" fn keeper_letter_write(
 // A letter checked against a trusted size and root: its index, and where in it its record lies.
 #[no_mangle]
 pub extern "C" fn keeper_letter_check(
+    mode: &[u8; 36],
     size: u64,
     root: &[u8],
     letter: &[u8],
@@ -201,10 +234,10 @@ pub extern "C" fn keeper_letter_check(
     record_len: &mut usize,
 ) -> u32
     ensures { λ r. ⌜ checkLeft r (now (index .exit)) (now («record_at» .exit)) (now («record_len» .exit))
-        ≡ letterCheckCall size (now (root .entry)) (now (letter .entry))
+        ≡ letterCheckCall (now (mode .entry)) size (now (root .entry)) (now (letter .entry))
         (now (index .entry)) (now («record_at» .entry)) (now («record_len» .entry)) ⌝ }
 {
-    let c = letter_checker::check(size, root, letter);
+    let c = letter_checker::check(mode, size, root, letter);
     if c.number != 0 {
         return c.number;
     }
@@ -218,6 +251,7 @@ pub extern "C" fn keeper_letter_check(
 // of one buffer, the letter's into those of the other.
 #[no_mangle]
 pub extern "C" fn keeper_find(
+    mode: &[u8; 36],
     size: u64,
     nodes: &[u8],
     rec: &[u8],
@@ -227,10 +261,10 @@ pub extern "C" fn keeper_find(
     found: &mut u32,
 ) -> u32
     ensures { λ r. ⌜ findLeft r (now (found .exit)) (now (first .exit)) (now (second .exit))
-        ≡ findCall size (now (nodes .entry)) (now (rec .entry)) (now (letter .entry))
+        ≡ findCall (now (mode .entry)) size (now (nodes .entry)) (now (rec .entry)) (now (letter .entry))
         (now (first .entry)) (now (second .entry)) (now (found .entry)) ⌝ }
 {
-    let f = letter_finder::find(size, nodes, rec, letter, first, second);
+    let f = letter_finder::find(mode, size, nodes, rec, letter, first, second);
     if f.number != 0 {
         return f.number;
     }

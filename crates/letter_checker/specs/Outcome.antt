@@ -1,14 +1,16 @@
--- What checking a letter returns, for every input and any digest function; the record beside it; what the panel's program prints.
+-- What checking a letter returns, for every input and any digest function; the record beside it; what the panel's programs print.
 use mathlib.Core.Bool.{true, false}
 use mathlib.Core.List.{List, _∷_}
 use Prim.Native.Nat.{ℕ}
 use denote.Ref.{RefT, now}
 use lib.Dec.{ltb}
-use lib.ListN.{length, drop}
+use lib.ListN.{length, take, drop}
 use Rattle.order.specs.Order.{Refusal, _if_, _is_, _is-not_, verdict}
 use Rattle.wire.specs.Numbers.{number}
 use Rattle.wire.specs.Slices.{part}
 use Rattle.wire.specs.Lent.{Part, partOf}
+use Rattle.digest.specs.Digest.{digestIn}
+use Rattle.digest.specs.Modes.{keyedMode}
 use Rattle.shape.specs.Sizes.{countAnswer, leaves}
 use Rattle.letter.specs.Bytes.{head, indexIn, statedIn}
 use Rattle.letter.specs.Checking.{from7}
@@ -55,3 +57,7 @@ module _ (digest : List ℕ → List ℕ) where
   judged input =
       elim (ltb (length input) 40)
       [ true ↦ 12 | false ↦ checkOutcome (number (part 0 8 input)) (part 8 32 input) (drop 40 input) .number ]
+
+-- a key (32 bytes), and then the same under it: the verdict number; 24 for input under 32 bytes
+unfoldable pub judgedKeyed : List ℕ → ℕ
+judgedKeyed input = elim (ltb (length input) 32) [ true ↦ 24 | false ↦ judged (digestIn (keyedMode (take 32 input))) (drop 32 input) ]

@@ -1,8 +1,8 @@
 // A letter checked against a size and a root that the caller trusts.
 ghost use mathlib.Core.Path.{_≡_};
-ghost use Rattle.digest.specs.Digest.{digestOf};
+ghost use Rattle.digest.specs.Digest.{digestIn};
 ghost use Rattle.wire.specs.Lent.{lent};
-ghost use Rattle.letter_checker.specs.Outcome.{checked, checkRefused, checkOutcome, recordPart, judged};
+ghost use Rattle.letter_checker.specs.Outcome.{checked, checkRefused, checkOutcome, recordPart, judged, judgedKeyed};
 use shape::Counted;
 
 // The answer of a check: the number, the index, and where the record lies in the letter. A refusal has 0 for these.
@@ -26,8 +26,8 @@ fn check_refused(number: u32) -> Checked
 }
 
 // Checks a letter. Refuses by 1, 12, 7 (under 20), 8, 5, 15, 3, 7 (exact), 9.
-pub fn check(size: u64, root: &[u8], letter: &[u8]) -> Checked
-    ensures { λ r. ⌜ checked r ≡ checkOutcome digestOf size (now (root .entry)) (now (letter .entry)) ⌝ }
+pub fn check(mode: &[u8; 36], size: u64, root: &[u8], letter: &[u8]) -> Checked
+    ensures { λ r. ⌜ checked r ≡ checkOutcome (digestIn (now (mode .entry))) size (now (root .entry)) (now (letter .entry)) ⌝ }
 {
     let c = shape::leaf_count(size);
     let Counted::Leaves(n) = c else {
@@ -42,7 +42,7 @@ pub fn check(size: u64, root: &[u8], letter: &[u8]) -> Checked
     }
     let start = f.start;
     let end = start + f.length;
-    let made = letter_root::root_of(n, f.index, &letter[start..end], &letter[end..]);
+    let made = letter_root::root_of(mode, n, f.index, &letter[start..end], &letter[end..]);
     let bytes = made.bytes;
     if wire::differ(root, &bytes) != 0 {
         return check_refused(9);
@@ -56,22 +56,34 @@ pub fn check(size: u64, root: &[u8], letter: &[u8]) -> Checked
 }
 
 // The record of an accepted letter, as a part of it; for a refusal an empty part at the start.
-pub fn record_in<'a>(size: u64, root: &[u8], letter: &'a [u8]) -> &'a [u8]
-    ensures { λ r. ⌜ lent r ≡ recordPart digestOf size (now (root .entry)) (letter .entry) ⌝ }
+pub fn record_in<'a>(mode: &[u8; 36], size: u64, root: &[u8], letter: &'a [u8]) -> &'a [u8]
+    ensures { λ r. ⌜ lent r ≡ recordPart (digestIn (now (mode .entry))) size (now (root .entry)) (letter .entry) ⌝ }
 {
-    let c = check(size, root, letter);
+    let c = check(mode, size, root, letter);
     let start = c.start;
     &letter[start..start + c.length]
 }
 
 // The verdict number for trusted size, root and one letter in a row. 12 for under 40 bytes.
-pub fn judge(input: &[u8]) -> u32
-    ensures { λ r. ⌜ r ≡ judged digestOf (now (input .entry)) ⌝ }
+pub fn judge(mode: &[u8; 36], input: &[u8]) -> u32
+    ensures { λ r. ⌜ r ≡ judged (digestIn (now (mode .entry))) (now (input .entry)) ⌝ }
 {
     if input.len() < 40 {
         return 12;
     }
     let size = wire::read8(input, 0);
-    let c = check(size, &input[8..40], &input[40..]);
+    let c = check(mode, size, &input[8..40], &input[40..]);
     c.number
+}
+
+// The verdict number for a key, and then trusted size, root and one letter in a row. 24 for under 32 bytes.
+pub fn judge_keyed(input: &[u8]) -> u32
+    ensures { λ r. ⌜ r ≡ judgedKeyed (now (input .entry)) ⌝ }
+{
+    if input.len() < 32 {
+        return 24;
+    }
+    let k = digest::keyed(&input[..32]);
+    let mode = k.mode;
+    judge(&mode, &input[32..])
 }

@@ -3,7 +3,6 @@ use mathlib.Core.Path.{_≡_, sym, ap, ap₂, _∙_}
 use mathlib.Core.Logic.{_≢_}
 use mathlib.Core.List.{List}
 use Prim.Native.Nat.{ℕ}
-use Rattle.digest.specs.Digest.{digestOf}
 use Rattle.order.specs.Order.{verdict, firstNumber}
 use Rattle.order.proofs.Laws.{Passes, refused-by}
 use Rattle.shape.specs.Tree.{Tree}
@@ -27,17 +26,17 @@ module _ {size n : ℕ} (letter : List ℕ) {r : Fields} (count : Counts size n)
     fields-pass = rw (count .value) (a .passes)
 
     -- the slices compared are the letter compared
-    pub formed : (bs rec first second : List ℕ) {x : FindOutcome}
-        → x ≡ againstOutcome bs n (r .index) rec (recordSlice size n letter e) (itemsSlice size n letter e) first second
-        → x ≡ verdict (findRefused first second) (rootDiffers digestOf (nodeIn bs) size rec letter first second)
-        (verdict (findRefused first second) (ownOrder digestOf (nodeIn bs) (leaves size) rec (indexIn letter))
-        (last digestOf (nodeIn bs) size rec letter first second))
+    pub formed : (digest : List ℕ → List ℕ) (bs rec first second : List ℕ) {x : FindOutcome}
+        → x ≡ againstOutcome digest bs n (r .index) rec (recordSlice size n letter e) (itemsSlice size n letter e) first second
+        → x ≡ verdict (findRefused first second) (rootDiffers digest (nodeIn bs) size rec letter first second)
+        (verdict (findRefused first second) (ownOrder digest (nodeIn bs) (leaves size) rec (indexIn letter))
+        (last digest (nodeIn bs) size rec letter first second))
     unfolding againstOutcome workedRoot
-    formed bs rec first second f =
+    formed digest bs rec first second f =
         f
-        ∙ ap₂ (λ (t : Tree) (x : List ℕ). comparing bs n (r .index) rec t x first second)
-        (tree-slices size n letter e a digestOf) (record-slice size n letter e a)
-        ∙ ap₂ (λ (m i : ℕ). comparing bs m i rec (letterTree digestOf m letter) (recordIn letter) first second) (sym (count .value)) (a .index)
+        ∙ ap₂ (λ (t : Tree) (x : List ℕ). comparing digest bs n (r .index) rec t x first second)
+        (tree-slices size n letter e a digest) (record-slice size n letter e a)
+        ∙ ap₂ (λ (m i : ℕ). comparing digest bs m i rec (letterTree digest m letter) (recordIn letter) first second) (sym (count .value)) (a .index)
 
   -- a refusal of its order
   pub refused-fields : (first second : List ℕ) (done : FindOutcome) {x : FindOutcome} → x ≡ findRefused first second (r .number) → r .number ≢ 0

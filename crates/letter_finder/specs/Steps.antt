@@ -1,7 +1,6 @@
 -- What the finder's own steps are called, which no public contract cites: a letter of the right form compared.
 use mathlib.Core.List.{List, [], _∷_}
 use Prim.Native.Nat.{ℕ}
-use Rattle.digest.specs.Digest.{digestOf}
 use Rattle.order.specs.Order.{_if_, _is-not_, verdict}
 use Rattle.wire.specs.Slices.{differ, rowsFrom}
 use Rattle.shape.specs.Tree.{Tree, root, inputs}
@@ -13,13 +12,13 @@ use Rattle.difference.specs.Outcome.{FindOutcome, findRefused, settled}
 use Rattle.letter_finder.specs.Outcome.{ownRoot, ownOrder}
 
 -- the tree and the record of a letter compared: 9, then 3 and 13 for the log's own record, 14, and 6
-abbrev pub comparing : List ℕ → ℕ → ℕ → List ℕ → Tree → List ℕ → List ℕ → List ℕ → FindOutcome
-comparing bs n i rec tree theirs first second =
-    verdict (findRefused first second) (9 if differ (ownRoot digestOf (nodeIn bs) n) (root digestOf tree) is-not 0 ∷ [])
-    (verdict (findRefused first second) (ownOrder digestOf (nodeIn bs) n rec i)
-    (settled (difference (seen digestOf (nodeIn bs) n i) (inputs digestOf tree)) (differ rec theirs) first second))
+abbrev pub comparing : (List ℕ → List ℕ) → List ℕ → ℕ → ℕ → List ℕ → Tree → List ℕ → List ℕ → List ℕ → FindOutcome
+comparing digest bs n i rec tree theirs first second =
+    verdict (findRefused first second) (9 if differ (ownRoot digest (nodeIn bs) n) (root digest tree) is-not 0 ∷ [])
+    (verdict (findRefused first second) (ownOrder digest (nodeIn bs) n rec i)
+    (settled (difference (seen digest (nodeIn bs) n i) (inputs digest tree)) (differ rec theirs) first second))
 
 -- a letter of the right form compared, by its record and its items
-unfoldable pub againstOutcome : List ℕ → ℕ → ℕ → List ℕ → List ℕ → List ℕ → List ℕ → List ℕ → FindOutcome
-againstOutcome bs n i rec theirs items first second =
-    comparing bs n i rec (treeOf digestOf n i theirs (rowsFrom 32 0 (itemCount n i) items)) theirs first second
+unfoldable pub againstOutcome : (List ℕ → List ℕ) → List ℕ → ℕ → ℕ → List ℕ → List ℕ → List ℕ → List ℕ → List ℕ → FindOutcome
+againstOutcome digest bs n i rec theirs items first second =
+    comparing digest bs n i rec (treeOf digest n i theirs (rowsFrom 32 0 (itemCount n i) items)) theirs first second

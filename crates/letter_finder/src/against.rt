@@ -1,7 +1,7 @@
 // A letter of the right form compared with the nodes.
 ghost use mathlib.Core.Path.{_≡_};
 ghost use Prim.Native.Nat.{_^_, _≤_, _<_};
-ghost use Rattle.digest.specs.Digest.{digestOf};
+ghost use Rattle.digest.specs.Digest.{digestIn};
 ghost use Rattle.shape.specs.Seen.{broken};
 ghost use Rattle.nodes.specs.Nodes.{nodeIn};
 ghost use Rattle.difference.specs.Outcome.{found};
@@ -10,31 +10,32 @@ use difference::Found;
 use digest::Digest;
 
 // The digest of the log's own record, which is the letter's leaf where the two records are the same.
-fn own_digest(apart: u8, leaf: Digest, rec: &[u8]) -> Digest
-    requires { ⌜ (apart ≡ 0 → leaf .bytes ≡ digestOf (now rec)) ⌝ }
-    ensures { λ r. ⌜ r .bytes ≡ digestOf (now (rec .entry)) ⌝ }
+fn own_digest(mode: &[u8; 36], apart: u8, leaf: Digest, rec: &[u8]) -> Digest
+    requires { ⌜ (apart ≡ 0 → leaf .bytes ≡ digestIn (now mode) (now rec)) ⌝ }
+    ensures { λ r. ⌜ r .bytes ≡ digestIn (now (mode .entry)) (now (rec .entry)) ⌝ }
 {
     if apart == 0 {
         return leaf;
     }
-    digest::digest_of(rec)
+    digest::digest_of(mode, rec)
 }
 
 // 1 where a node on the path, within its peak, isn't the digest of its two children, else 0. Where no input differs, each is, and the path is not
 // looked at again.
-fn way_broken(nodes: &[u8], n: u64, i: u64, apart: u8) -> u8
-    requires { ⌜ (i < n) × (n ≤ 2 ^ 32) × (apart ≡ 0 → broken digestOf (nodeIn (now nodes)) n i ≡ 0) ⌝ }
-    ensures { λ r. ⌜ r ≡ broken digestOf (nodeIn (now (nodes .entry))) n i ⌝ }
+fn way_broken(mode: &[u8; 36], nodes: &[u8], n: u64, i: u64, apart: u8) -> u8
+    requires { ⌜ (i < n) × (n ≤ 2 ^ 32) × (apart ≡ 0 → broken (digestIn (now mode)) (nodeIn (now nodes)) n i ≡ 0) ⌝ }
+    ensures { λ r. ⌜ r ≡ broken (digestIn (now (mode .entry))) (nodeIn (now (nodes .entry))) n i ⌝ }
 {
     if apart == 0 {
         return 0;
     }
-    letter_walk::broken_to(nodes, n, i)
+    letter_walk::broken_to(mode, nodes, n, i)
 }
 
 // Compares the record `theirs` and the items of a letter for index i with the nodes of n leaves. Refuses by 9, then by 3 and 13 for the log's own
 // record, 14, 6.
 pub(crate) fn against(
+    mode: &[u8; 36],
     nodes: &[u8],
     n: u64,
     i: u64,
@@ -46,11 +47,11 @@ pub(crate) fn against(
 ) -> Found
     requires { ⌜ (i < n) × (n ≤ 2 ^ 32) ⌝ }
     ensures { λ r. ⌜ found r (now (first .exit)) (now (second .exit))
-        ≡ againstOutcome (now (nodes .entry)) n i (now (rec .entry)) (now (theirs .entry)) (now (items .entry))
+        ≡ againstOutcome (digestIn (now (mode .entry))) (now (nodes .entry)) n i (now (rec .entry)) (now (theirs .entry)) (now (items .entry))
         (now (first .entry)) (now (second .entry)) ⌝ }
 {
-    let leaf = digest::digest_of(theirs);
-    let w = letter_walk::walk_to(nodes, items, n, i, leaf);
+    let leaf = digest::digest_of(mode, theirs);
+    let w = letter_walk::walk_to(mode, nodes, items, n, i, leaf);
     if inputs::digests_differ(w.log, w.letter) != 0 {
         return difference::find_refused(9);
     }
@@ -58,12 +59,12 @@ pub(crate) fn against(
         return difference::find_refused(3);
     }
     let apart = wire::differ(rec, theirs);
-    let own = own_digest(apart, leaf, rec);
+    let own = own_digest(mode, apart, leaf, rec);
     if letter::leaf::foreign(nodes, i, own) != 0 {
         return difference::find_refused(13);
     }
     let highest = w.difference;
-    if way_broken(nodes, n, i, highest.apart) != 0 {
+    if way_broken(mode, nodes, n, i, highest.apart) != 0 {
         return difference::find_refused(14);
     }
     difference::settle::settle(highest, apart, first, second)

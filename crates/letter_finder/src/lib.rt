@@ -1,6 +1,6 @@
 // A letter compared with the log's own nodes, from the root down.
 ghost use mathlib.Core.Path.{_≡_};
-ghost use Rattle.digest.specs.Digest.{digestOf};
+ghost use Rattle.digest.specs.Digest.{digestIn};
 ghost use Rattle.difference.specs.Outcome.{found};
 ghost use Rattle.letter_finder.specs.Outcome.{findOutcome};
 
@@ -13,6 +13,7 @@ use shape::Counted;
 // for the log's own record, 14, 6. The buffers change only for a pair: the log's input goes over the first 64 bytes of one, the letter's over those
 // of the other.
 pub fn find(
+    mode: &[u8; 36],
     size: u64,
     nodes: &[u8],
     rec: &[u8],
@@ -21,7 +22,7 @@ pub fn find(
     second: &mut [u8],
 ) -> Found
     ensures { λ r. ⌜ found r (now (first .exit)) (now (second .exit))
-        ≡ findOutcome digestOf size (now (nodes .entry)) (now (rec .entry)) (now (letter .entry))
+        ≡ findOutcome (digestIn (now (mode .entry))) size (now (nodes .entry)) (now (rec .entry)) (now (letter .entry))
         (now (first .entry)) (now (second .entry)) ⌝ }
 {
     let c = shape::leaf_count(size);
@@ -41,6 +42,7 @@ pub fn find(
     let start = f.start;
     let end = start + f.length;
     against::against(
+        mode,
         nodes,
         n,
         f.index,

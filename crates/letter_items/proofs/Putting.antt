@@ -5,7 +5,7 @@ use mathlib.Core.List.{List, [], _∷_, _++_, map, map-append}
 use Prim.Native.Nat.{ℕ, suc, _+_, _-_, _*_, _%_, _^_, _≤_, _<_}
 use native.Mathlib.Omega.{arith}
 use lib.ListN.{length, length-append, length-map}
-use Rattle.digest.specs.Digest.{digestOf, digest-length}
+use Rattle.digest.specs.Digest.{digestIn, digest-length}
 use Rattle.wire.specs.Slices.{splice, written, Each, joined}
 use Rattle.wire.proofs.Splices.{splice-none, splice-length, splice-splice, written-fits, written-next}
 use Rattle.shape.specs.Positions.{top, behind, peaksIn, alone, positionsIn, fold}
@@ -31,18 +31,18 @@ abbrev pub Room : ℕ → ℕ → ℕ → ℕ → ℕ → ℕ → Type 0
 Room h n i s at room = (h ≤ 32) × (i < n) × (n ≤ 2 ^ h) × (s + 2 * 2 ^ h ≤ 2 ^ 34) × (at + 32 * length (positionsIn (suc h) n i s) ≤ room)
 
 -- what it leaves: the place behind the items, and the buffer with them
-abbrev pub Put : List ℕ → ℕ → ℕ → ℕ → ℕ → ℕ → List ℕ → ℕ → List ℕ → Type 0
-Put bs h n i s at d next last =
-    (next ≡ at + 32 * length (positionsIn (suc h) n i s)) × (last ≡ splice at (joined (itemsFrom digestOf (nodeIn bs) h n i s)) d)
+abbrev pub Put : List ℕ → List ℕ → ℕ → ℕ → ℕ → ℕ → ℕ → List ℕ → ℕ → List ℕ → Type 0
+Put mode bs h n i s at d next last =
+    (next ≡ at + 32 * length (positionsIn (suc h) n i s)) × (last ≡ splice at (joined (itemsFrom (digestIn mode) (nodeIn bs) h n i s)) d)
 
 joined-cons : (x : List ℕ) (xs : List (List ℕ)) → joined (x ∷ xs) ≡ x ++ joined xs
 unfolding joined
 joined-cons x xs = refl
 
 -- one leaf has no items
-pub put-none : (bs : List ℕ) (h n i s at : ℕ) (d : List ℕ) → h ≡ 0 → Room h n i s at (length d) → Put bs h n i s at d at d
+pub put-none : (mode bs : List ℕ) (h n i s at : ℕ) (d : List ℕ) → h ≡ 0 → Room h n i s at (length d) → Put mode bs h n i s at d at d
 unfolding joined
-put-none bs h n i s at d z r =
+put-none mode bs h n i s at d z r =
     let e : positionsIn (suc h) n i s ≡ [] =
     ap (λ (k : ℕ). positionsIn (suc k) n i s) z ∙ positions-one n i s (let q : 2 ^ h ≡ 1 = rw z in omega arith) (r .1) in
     rw e (omega arith, sym (splice-none at d))
@@ -80,18 +80,18 @@ module _ {h n i s at room half : ℕ} (f : Above h n i s at room half) where
     low-room =
         (omega (arith, f .fits .0), f .fits .1, omega (arith, halves .is), omega (arith, halves, f .fits .3), rw low-same at (f .fits .4))
 
-    pub low-put : (bs d : List ℕ) {next : ℕ} {last : List ℕ} → Put bs (h - 1) n i s at d next last → Put bs h n i s at d next last
-    low-put bs d p = rw low-same p
+    pub low-put : (mode bs d : List ℕ) {next : ℕ} {last : List ℕ} → Put mode bs (h - 1) n i s at d next last → Put mode bs h n i s at d next last
+    low-put mode bs d p = rw low-same p
 
   -- ---- leaves on two sides
 
   -- one digest more, behind those that are there
-  put-behind : (bs d : List ℕ) (ps : List (List ℕ)) (p : List ℕ) {next : ℕ} {side before last : List ℕ} → length d ≡ room
-      → positionsIn (suc h) n i s ≡ ps ++ (p ∷ []) → Each 32 (map (fold digestOf (nodeIn bs)) ps) → length side ≡ 32
-      → next ≡ at + 32 * length ps → before ≡ splice at (joined (map (fold digestOf (nodeIn bs)) ps)) d
-      → side ≡ fold digestOf (nodeIn bs) p → last ≡ written next side before → Put bs h n i s at d (next + 32) last
-  put-behind bs d ps p {next} {side} {before} long e each l en eb es el =
-      let read : List ℕ → List ℕ = fold digestOf (nodeIn bs) in
+  put-behind : (mode bs d : List ℕ) (ps : List (List ℕ)) (p : List ℕ) {next : ℕ} {side before last : List ℕ} → length d ≡ room
+      → positionsIn (suc h) n i s ≡ ps ++ (p ∷ []) → Each 32 (map (fold (digestIn mode) (nodeIn bs)) ps) → length side ≡ 32
+      → next ≡ at + 32 * length ps → before ≡ splice at (joined (map (fold (digestIn mode) (nodeIn bs)) ps)) d
+      → side ≡ fold (digestIn mode) (nodeIn bs) p → last ≡ written next side before → Put mode bs h n i s at d (next + 32) last
+  put-behind mode bs d ps p {next} {side} {before} long e each l en eb es el =
+      let read : List ℕ → List ℕ = fold (digestIn mode) (nodeIn bs) in
       let xs : List ℕ = joined (map read ps) in
       let k : length (positionsIn (suc h) n i s) ≡ suc (length ps) = ap length e ∙ length-append ps (p ∷ []) ∙ omega arith in
       let m : length xs ≡ 32 * length ps = joined-length (map read ps) each ∙ ap (λ (x : ℕ). 32 * x) (length-map ps read) in
@@ -125,18 +125,18 @@ module _ {h n i s at room half : ℕ} (f : Above h n i s at room half) where
       left-room =
           (omega (arith, f .fits .0), l, omega (arith, halves .is), omega (arith, halves, f .fits .3), omega (arith, left-more, f .fits .4))
 
-      pub left-put : (bs d : List ℕ) {next : ℕ} {side before last : List ℕ} → length d ≡ room → Put bs (h - 1) half i s at d next before
-          → side ≡ foldFrom digestOf bs (n - half) (middle s half) → last ≡ written next side before → Put bs h n i s at d (next + 32) last
-      left-put bs d {side = side} long p es el =
+      pub left-put : (mode bs d : List ℕ) {next : ℕ} {side before last : List ℕ} → length d ≡ room → Put mode bs (h - 1) half i s at d next before
+          → side ≡ foldFrom (digestIn mode) bs (n - half) (middle s half) → last ≡ written next side before → Put mode bs h n i s at d (next + 32) last
+      left-put mode bs d {side = side} long p es el =
           let ps : List ℕ = peaksIn (suc (h - 1)) (n - half) (middle s half) in
-          let e : side ≡ fold digestOf (nodeIn bs) ps =
-          es ∙ from-any digestOf bs (n - half) (middle s half) (h - 1) (omega (arith, halves .is, rest-few)) (rest-few .1)
+          let e : side ≡ fold (digestIn mode) (nodeIn bs) ps =
+          es ∙ from-any (digestIn mode) bs (n - half) (middle s half) (h - 1) (omega (arith, halves .is, rest-few)) (rest-few .1)
           (omega (arith, rest-few, half-bounds)) (omega (arith, half-bounds)) in
           let some : 0 < length ps =
           peaks-some (suc (h - 1)) (n - half) (middle s half) (rest-few .1) (omega (arith, rest-few, halves .double, half-bounds)) in
-          put-behind bs d (positionsIn (suc (h - 1)) half i s) ps long left-same
-          (from-each digestOf (nodeIn bs) digest-length (node-length bs) (h - 1) half i s l (omega (arith, halves .is)))
-          (ap length e ∙ fold-length digestOf (nodeIn bs) digest-length (node-length bs) ps some) (p .0) (p .1) e el
+          put-behind mode bs d (positionsIn (suc (h - 1)) half i s) ps long left-same
+          (from-each (digestIn mode) (nodeIn bs) (digest-length mode) (node-length bs) (h - 1) half i s l (omega (arith, halves .is)))
+          (ap length e ∙ fold-length (digestIn mode) (nodeIn bs) (digest-length mode) (node-length bs) ps some) (p .0) (p .1) e el
 
     -- ---- to the right
 
@@ -147,9 +147,9 @@ module _ {h n i s at room half : ℕ} (f : Above h n i s at room half) where
           let near : middle s half + 2 * 2 ^ (h - 1) ≤ 2 ^ 34 = omega (arith, halves .is, half-bounds) in
           (omega (arith, f .fits .0), omega (arith, f .fits .1), omega (arith, halves .is, rest-few), near, k)
 
-      right-each : (bs : List ℕ) → Each 32 (itemsFrom digestOf (nodeIn bs) (h - 1) (n - half) (i - half) (middle s half))
-      right-each bs =
-          from-each digestOf (nodeIn bs) digest-length (node-length bs) (h - 1) (n - half) (i - half) (middle s half)
+      right-each : (mode bs : List ℕ) → Each 32 (itemsFrom (digestIn mode) (nodeIn bs) (h - 1) (n - half) (i - half) (middle s half))
+      right-each mode bs =
+          from-each (digestIn mode) (nodeIn bs) (digest-length mode) (node-length bs) (h - 1) (n - half) (i - half) (middle s half)
           (omega (arith, f .fits .1)) (omega (arith, halves .is, rest-few))
 
       -- within a peak
@@ -164,12 +164,12 @@ module _ {h n i s at room half : ℕ} (f : Above h n i s at room half) where
         within-room =
             right-room at (omega (arith, ap length within-same ∙ length-append (toRight h n i s half) (alone (middle s half - 1) ∷ []), f .fits .4))
 
-        pub within-put : (bs d : List ℕ) {next : ℕ} {side before last : List ℕ} → length d ≡ room
-            → Put bs (h - 1) (n - half) (i - half) (middle s half) at d next before
-            → side ≡ nodeIn bs (middle s half - 1) → last ≡ written next side before → Put bs h n i s at d (next + 32) last
-        within-put bs d long p es el =
-            put-behind bs d (toRight h n i s half) (alone (middle s half - 1)) long within-same
-            (right-each bs) (ap length es ∙ node-length bs (middle s half - 1)) (p .0) (p .1) es el
+        pub within-put : (mode bs d : List ℕ) {next : ℕ} {side before last : List ℕ} → length d ≡ room
+            → Put mode bs (h - 1) (n - half) (i - half) (middle s half) at d next before
+            → side ≡ nodeIn bs (middle s half - 1) → last ≡ written next side before → Put mode bs h n i s at d (next + 32) last
+        within-put mode bs d long p es el =
+            put-behind mode bs d (toRight h n i s half) (alone (middle s half - 1)) long within-same
+            (right-each mode bs) (ap length es ∙ node-length bs (middle s half - 1)) (p .0) (p .1) es el
 
       -- past a peak
       module _ (z : n - half ≡ half → ⊥) where
@@ -198,15 +198,15 @@ module _ {h n i s at room half : ℕ} (f : Above h n i s at room half) where
             → before ≡ written at side d → Room (h - 1) (n - half) (i - half) (middle s half) (at + 32) (length before)
         past-room bs d long es eb = rw (peak-fits bs d long es eb .2) (right-room (at + 32) (omega (arith, ap length past-same, f .fits .4)))
 
-        pub past-put : (bs d : List ℕ) {next : ℕ} {side before last : List ℕ} → length d ≡ room → side ≡ nodeIn bs (middle s half - 1)
-            → before ≡ written at side d → Put bs (h - 1) (n - half) (i - half) (middle s half) (at + 32) before next last
-            → Put bs h n i s at d next last
-        past-put bs d {side = side} {before = before} long es eb p =
-            let read : List ℕ → List ℕ = fold digestOf (nodeIn bs) in
+        pub past-put : (mode bs d : List ℕ) {next : ℕ} {side before last : List ℕ} → length d ≡ room → side ≡ nodeIn bs (middle s half - 1)
+            → before ≡ written at side d → Put mode bs (h - 1) (n - half) (i - half) (middle s half) (at + 32) before next last
+            → Put mode bs h n i s at d next last
+        past-put mode bs d {side = side} {before = before} long es eb p =
+            let read : List ℕ → List ℕ = fold (digestIn mode) (nodeIn bs) in
             let ps : List (List ℕ) = toRight h n i s half in
             let ys : List ℕ = joined (map read ps) in
             let k = peak-fits bs d long es eb in
-            let m : length ys ≡ 32 * length ps = joined-length (map read ps) (right-each bs) ∙ ap (λ (x : ℕ). 32 * x) (length-map ps read) in
+            let m : length ys ≡ 32 * length ps = joined-length (map read ps) (right-each mode bs) ∙ ap (λ (x : ℕ). 32 * x) (length-map ps read) in
             let b : at + 32 ≡ at + length side = omega (arith, k .0) in
             let r : at + length side + length ys ≤ length d = omega (arith, ap length past-same, f .fits .4, k .0) in (
               omega (arith, ap length past-same, p .0),

@@ -7,7 +7,7 @@ use native.Mathlib.Decide.{decLe}
 use native.Mathlib.Omega.{arith}
 use lib.ListN.{length}
 use lib.Pow.{pow-mono}
-use Rattle.digest.specs.Digest.{digestOf, digest-length}
+use Rattle.digest.specs.Digest.{digestIn, digest-length}
 use Rattle.wire.specs.Slices.{written, joined}
 use Rattle.wire.proofs.Splices.{splice-none, written-fits, written-short}
 use Rattle.shape.specs.Sizes.{heightOf}
@@ -19,21 +19,21 @@ use Rattle.letter.specs.Items.{itemCount, itemsOf}
 use Rattle.letter.proofs.ItemsOf.{items-counted, itemsFrom, items-of, items-none, items-bytes}
 use Rattle.letter_items.proofs.Putting.{Room, Put}
 
-module _ (bs d : List ℕ) (at n i : ℕ) where
+module _ (mode bs d : List ℕ) (at n i : ℕ) where
   -- an index that has no items
-  pub written-none : (i < n → n ≤ 2 ^ 32 → ⊥) → d ≡ written at (joined (itemsOf digestOf (nodeIn bs) n i)) d
+  pub written-none : (i < n → n ≤ 2 ^ 32 → ⊥) → d ≡ written at (joined (itemsOf (digestIn mode) (nodeIn bs) n i)) d
   unfolding joined
   written-none h =
-      rw (items-none digestOf (nodeIn bs) n i h)
+      rw (items-none (digestIn mode) (nodeIn bs) n i h)
       (by-cases (decLe (at + 0) (length d)) (λ a. sym (written-fits at [] d a ∙ splice-none at d)) (λ a. sym (written-short at [] d (omega arith))))
 
   module _ (p : i < n) (q : n ≤ 2 ^ 32) where
-    long : length (joined (itemsOf digestOf (nodeIn bs) n i)) ≡ 32 * itemCount n i
-    long = items-bytes digestOf (nodeIn bs) digest-length (node-length bs) n i p q
+    long : length (joined (itemsOf (digestIn mode) (nodeIn bs) n i)) ≡ 32 * itemCount n i
+    long = items-bytes (digestIn mode) (nodeIn bs) (digest-length mode) (node-length bs) n i p q
 
     -- no room for them
-    pub written-cut : length d < at + 32 * itemCount n i → d ≡ written at (joined (itemsOf digestOf (nodeIn bs) n i)) d
-    written-cut h = sym (written-short at (joined (itemsOf digestOf (nodeIn bs) n i)) d (omega (arith, long)))
+    pub written-cut : length d < at + 32 * itemCount n i → d ≡ written at (joined (itemsOf (digestIn mode) (nodeIn bs) n i)) d
+    written-cut h = sym (written-short at (joined (itemsOf (digestIn mode) (nodeIn bs) n i)) d (omega (arith, long)))
 
     module _ (h : ℕ) (e : h ≡ heightOf n) (room : at + 32 * itemCount n i ≤ length d) where
       counted : length (positionsIn (suc h) n i 0) ≡ itemCount n i
@@ -47,8 +47,8 @@ module _ (bs d : List ℕ) (at n i : ℕ) where
           let k : 2 ^ h ≤ 2 ^ 32 = pow-mono {i = h} {j = 32} (omega arith) in
           (omega arith, p, rw e (height-holds n), omega arith, omega (arith, counted))
 
-      pub written-all : {next : ℕ} {last : List ℕ} → Put bs h n i 0 at d next last → last ≡ written at (joined (itemsOf digestOf (nodeIn bs) n i)) d
+      pub written-all : {next : ℕ} {last : List ℕ} → Put mode bs h n i 0 at d next last → last ≡ written at (joined (itemsOf (digestIn mode) (nodeIn bs) n i)) d
       written-all r =
-          let s : itemsFrom digestOf (nodeIn bs) h n i 0 ≡ itemsOf digestOf (nodeIn bs) n i =
-          ap (λ (k : ℕ). itemsFrom digestOf (nodeIn bs) k n i 0) e ∙ sym (items-of digestOf (nodeIn bs) n i p q) in
-          rw s at (r .1) ∙ sym (written-fits at (joined (itemsOf digestOf (nodeIn bs) n i)) d (omega (arith, long)))
+          let s : itemsFrom (digestIn mode) (nodeIn bs) h n i 0 ≡ itemsOf (digestIn mode) (nodeIn bs) n i =
+          ap (λ (k : ℕ). itemsFrom (digestIn mode) (nodeIn bs) k n i 0) e ∙ sym (items-of (digestIn mode) (nodeIn bs) n i p q) in
+          rw s at (r .1) ∙ sym (written-fits at (joined (itemsOf (digestIn mode) (nodeIn bs) n i)) d (omega (arith, long)))

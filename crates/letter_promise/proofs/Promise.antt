@@ -3,7 +3,7 @@ use mathlib.Core.Path.{_≡_, ap, sym, subst, _∙_}
 use mathlib.Core.List.{List, map}
 use Prim.Native.Nat.{ℕ, _*_}
 use lib.ListN.{length}
-use Rattle.digest.specs.Digest.{digestOf, digest-length}
+use Rattle.digest.specs.Digest.{digestIn, digest-length}
 use Rattle.order.specs.Order.{_under_}
 use Rattle.shape.specs.Tree.{root}
 use Rattle.shape.specs.Folded.{tree}
@@ -74,28 +74,28 @@ module _ (digest : List ℕ → List ℕ) (digest-32 : (x : List ℕ) → length
   pub places-built-over : PlacesBuilt digest
   places-built-over rs g bs room = rw (run-all digest digest-32 bs rs (g .short) (g .few) room) at (built-hashed digest digest-32 bs rs)
 
--- ---- for Blake3
+-- ---- for BLAKE3, plain or keyed
 
-pub letter-accepted : LetterAccepted digestOf
-letter-accepted = letter-accepted-over digestOf digest-length
+pub letter-accepted : (mode : List ℕ) → LetterAccepted (digestIn mode)
+letter-accepted mode = letter-accepted-over (digestIn mode) (digest-length mode)
 
-pub accepted-is-ours : AcceptedIsOurs digestOf
-accepted-is-ours = accepted-is-ours-over digestOf digest-length
+pub accepted-is-ours : (mode : List ℕ) → AcceptedIsOurs (digestIn mode)
+accepted-is-ours mode = accepted-is-ours-over (digestIn mode) (digest-length mode)
 
-pub ours-is-same : OursIsSame digestOf
-ours-is-same = ours-is-same-over digestOf digest-length
+pub ours-is-same : (mode : List ℕ) → OursIsSame (digestIn mode)
+ours-is-same mode = ours-is-same-over (digestIn mode) (digest-length mode)
 
-pub same-is-ours : SameIsOurs digestOf
-same-is-ours = same-is-ours-over digestOf digest-length
+pub same-is-ours : (mode : List ℕ) → SameIsOurs (digestIn mode)
+same-is-ours mode = same-is-ours-over (digestIn mode) (digest-length mode)
 
-pub found-named : FoundNamed digestOf
-found-named = found-named-over digestOf digest-length
+pub found-named : (mode : List ℕ) → FoundNamed (digestIn mode)
+found-named mode = found-named-over (digestIn mode) (digest-length mode)
 
-pub one-letter : OneLetter digestOf
-one-letter = one-letter-over digestOf digest-length
+pub one-letter : (mode : List ℕ) → OneLetter (digestIn mode)
+one-letter mode = one-letter-over (digestIn mode) (digest-length mode)
 
-pub appends-build : AppendsBuild digestOf
-appends-build = appends-build-over digestOf digest-length
+pub appends-build : (mode : List ℕ) → AppendsBuild (digestIn mode)
+appends-build mode = appends-build-over (digestIn mode) (digest-length mode)
 
-pub places-built : PlacesBuilt digestOf
-places-built = places-built-over digestOf digest-length
+pub places-built : (mode : List ℕ) → PlacesBuilt (digestIn mode)
+places-built mode = places-built-over (digestIn mode) (digest-length mode)

@@ -4,7 +4,7 @@ ghost use mathlib.Core.List.{_++_};
 ghost use Prim.Native.Nat.{_+_, _*_, _≤_};
 ghost use lib.ListN.{length};
 ghost use Rattle.wire.specs.Slices.{part, rowsFrom};
-ghost use Rattle.digest.specs.Digest.{digestOf};
+ghost use Rattle.digest.specs.Digest.{digestIn};
 ghost use Rattle.shape.specs.Tree.{root};
 ghost use Rattle.shape.specs.Letter.{wayIn, fill};
 ghost use Rattle.letter.specs.Items.{itemCount, treeOf};
@@ -26,11 +26,11 @@ fn item(items: &[u8], k: usize) -> Digest
 }
 
 // The parent of two digests, and one more item used.
-fn parent(left: Digest, right: Digest, used: usize) -> Worked
+fn parent(mode: &[u8; 36], left: Digest, right: Digest, used: usize) -> Worked
     requires { ⌜ used ≤ 64 ⌝ }
-    ensures { λ r. ⌜ (r .used ≡ used + 1) × (r .digest .bytes ≡ digestOf (left .bytes ++ right .bytes)) ⌝ }
+    ensures { λ r. ⌜ (r .used ≡ used + 1) × (r .digest .bytes ≡ digestIn (now (mode .entry)) (left .bytes ++ right .bytes)) ⌝ }
 {
-    let digest = digest::digest_of_pair(left, right);
+    let digest = digest::digest_of_pair(mode, left, right);
     Worked {
         digest,
         used: used + 1,
@@ -38,10 +38,10 @@ fn parent(left: Digest, right: Digest, used: usize) -> Worked
 }
 
 // The root of n leaves, n at most 2^h, worked out from leaf i's digest and the items from number `from` on.
-fn work(h: u32, n: u64, i: u64, leaf: Digest, items: &[u8], from: usize) -> Worked
+fn work(mode: &[u8; 36], h: u32, n: u64, i: u64, leaf: Digest, items: &[u8], from: usize) -> Worked
     requires { ⌜ from + h ≤ 64 ⌝ }
     ensures { λ r. ⌜ (r .used ≡ length (wayIn h n i)) × (r .digest .bytes
-        ≡ root digestOf (fill (wayIn h n i) (leaf .bytes) (rowsFrom 32 (32 * from) (length (wayIn h n i)) (now (items .entry))))) ⌝ }
+        ≡ root (digestIn (now (mode .entry))) (fill (wayIn h n i) (leaf .bytes) (rowsFrom 32 (32 * from) (length (wayIn h n i)) (now (items .entry))))) ⌝ }
 {
     if h == 0 {
         return Worked {
@@ -52,29 +52,30 @@ fn work(h: u32, n: u64, i: u64, leaf: Digest, items: &[u8], from: usize) -> Work
     let g = h - 1;
     let half = shape::power(g);
     if n <= half {
-        return work(g, n, i, leaf, items, from);
+        return work(mode, g, n, i, leaf, items, from);
     }
     if i < half {
-        let low = work(g, half, i, leaf, items, from);
+        let low = work(mode, g, half, i, leaf, items, from);
         let right = item(items, from + low.used);
-        return parent(low.digest, right, low.used);
+        return parent(mode, low.digest, right, low.used);
     }
     let rest = n - half;
     if rest == half {
-        let low = work(g, rest, i - half, leaf, items, from);
+        let low = work(mode, g, rest, i - half, leaf, items, from);
         let left = item(items, from + low.used);
-        return parent(left, low.digest, low.used);
+        return parent(mode, left, low.digest, low.used);
     }
     let peak = item(items, from);
-    let low = work(g, rest, i - half, leaf, items, from + 1);
-    parent(peak, low.digest, low.used)
+    let low = work(mode, g, rest, i - half, leaf, items, from + 1);
+    parent(mode, peak, low.digest, low.used)
 }
 
 // The root worked out for index i of n leaves from a record and the items that follow one another in `items`.
-pub fn root_of(n: u64, i: u64, rec: &[u8], items: &[u8]) -> Digest
-    ensures { λ r. ⌜ r .bytes ≡ root digestOf (treeOf digestOf n i (now (rec .entry)) (rowsFrom 32 0 (itemCount n i) (now (items .entry)))) ⌝ }
+pub fn root_of(mode: &[u8; 36], n: u64, i: u64, rec: &[u8], items: &[u8]) -> Digest
+    ensures { λ r. ⌜ r .bytes
+        ≡ root (digestIn (now (mode .entry))) (treeOf (digestIn (now (mode .entry))) n i (now (rec .entry)) (rowsFrom 32 0 (itemCount n i) (now (items .entry)))) ⌝ }
 {
-    let leaf = digest::digest_of(rec);
-    let top = work(shape::height(n), n, i, leaf, items, 0);
+    let leaf = digest::digest_of(mode, rec);
+    let top = work(mode, shape::height(n), n, i, leaf, items, 0);
     top.digest
 }

@@ -45,9 +45,10 @@ fn show_lengths(
     from: usize,
     to: usize,
 ) {
+    let mode = digest::plain();
     let mut counts = [0u64; 16];
     for n in from..to {
-        let c = letter_checker::check(size, root, front(letter, n));
+        let c = letter_checker::check(&mode, size, root, front(letter, n));
         count(&mut counts, c.number);
     }
     show_counts(label, &counts);
@@ -55,10 +56,11 @@ fn show_lengths(
 
 // The number of a letter of n bytes with some bits of one byte flipped.
 fn flipped(size: u64, root: &[u8; 32], letter: [u8; 400], n: usize, at: usize, bits: u8) -> u32 {
+    let mode = digest::plain();
     let mut other = letter;
     let b = wire::read_byte(&other, at);
     wire::write_byte(&mut other, at, b ^ bits);
-    let c = letter_checker::check(size, root, front(&other, n));
+    let c = letter_checker::check(&mode, size, root, front(&other, n));
     c.number
 }
 

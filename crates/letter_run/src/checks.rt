@@ -30,11 +30,13 @@ fn restated(named: u64, index: u64, stated: u64) -> [u8; 400] {
 // One line: what is given, and what the checker makes of it. The trusted size and how much of the root is lent; the size, the index and the record
 // length that the letter states, and its length.
 fn try_check(size: u64, lent: u64, named: u64, index: u64, stated: u64, length: u64) {
+    let mode = digest::plain();
     let row = [size, lent, named, index, stated, length];
     say_numbers(b"check", &row);
     let trusted = root();
     let given = restated(named, index, stated);
     let c = letter_checker::check(
+        &mode,
         size,
         front(&trusted, lent as usize),
         front(&given, length as usize),

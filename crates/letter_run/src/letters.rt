@@ -13,10 +13,11 @@ use runs::lines::say_numbers;
 
 // A letter of n bytes: its digest; what the checker makes of it; whether its record differs from the log's, and whether a byte behind it has changed.
 fn show_letter(size: u64, root: [u8; 32], out: &[u8; 16640], n: usize, rec: &[u8]) {
+    let mode = digest::plain();
     let letter = front(out, n);
     say_digest(b" ", letter);
-    show_checked(b" check", letter_checker::check(size, &root, letter));
-    let other = wire::differ(letter_checker::record_in(size, &root, letter), rec);
+    show_checked(b" check", letter_checker::check(&mode, size, &root, letter));
+    let other = wire::differ(letter_checker::record_in(&mode, size, &root, letter), rec);
     let numbers = [other as u64, changed_behind(out, n)];
     say_numbers(b" differ", &numbers);
     end_line();
@@ -24,8 +25,9 @@ fn show_letter(size: u64, root: [u8; 32], out: &[u8; 16640], n: usize, rec: &[u8
 
 // The line of one letter, written with its record.
 fn show_line(leaves: usize, size: u64, index: usize, rec: &[u8], nodes: &[u8; 1216]) {
+    let mode = digest::plain();
     let mut out = output();
-    let w = letter_writer::write_letter(size, index as u64, rec, nodes, &mut out);
+    let w = letter_writer::write_letter(&mode, size, index as u64, rec, nodes, &mut out);
     let numbers = [
         leaves as u64,
         index as u64,

@@ -8,8 +8,9 @@ use runs::lines::say_numbers;
 
 // Record k appended to a log of at most 20; the new size.
 pub(crate) fn grow(size: u64, k: usize, nodes: &mut [u8; 1216]) -> u64 {
+    let mode = digest::plain();
     let rec = record_of(k);
-    let a = log::append(size, front(&rec, length_of(k)), nodes);
+    let a = log::append(&mode, size, front(&rec, length_of(k)), nodes);
     a.size
 }
 
@@ -25,15 +26,18 @@ pub(crate) fn log_of(n: usize, nodes: &mut [u8; 1216]) -> u64 {
 
 // The root of a log.
 pub(crate) fn root_of(size: u64, nodes: &[u8; 1216]) -> [u8; 32] {
-    let r = log::root(size, nodes);
+    let mode = digest::plain();
+    let r = log::root(&mode, size, nodes);
     let d = r.root;
     d.bytes
 }
 
 // The letter of an index, in the first bytes of an output; its length.
 pub(crate) fn letter_of(size: u64, index: usize, nodes: &[u8; 1216], out: &mut [u8]) -> usize {
+    let mode = digest::plain();
     let rec = record_of(index);
     let w = letter_writer::write_letter(
+        &mode,
         size,
         index as u64,
         front(&rec, length_of(index)),

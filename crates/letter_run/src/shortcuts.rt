@@ -21,9 +21,10 @@ fn letter_of(named: u64, index: u64, rec: &[u8], n: u32, items: &[u8]) -> [u8; 1
 
 // One line: the size that is trusted, the size that the letter names, and what the checker makes of it.
 fn show_check(label: &[u8], size: u64, root: [u8; 32], letter: &[u8]) {
+    let mode = digest::plain();
     let numbers = [size, wire::read8(letter, 0)];
     say_numbers(label, &numbers);
-    show_checked(b":", letter_checker::check(size, &root, letter));
+    show_checked(b":", letter_checker::check(&mode, size, &root, letter));
     end_line();
 }
 
@@ -63,13 +64,14 @@ fn show_two_as_one(size: u64, nodes: &[u8; 1216]) {
 
 // The shortest letter, for one empty record: its root is the digest of empty input.
 fn show_whole() {
+    let mode = digest::plain();
     let mut letter = [0u8; 20];
     letter[7] = 1;
-    let d = digest::digest_of(b"");
+    let d = digest::digest_of(&mode, b"");
     let root = d.bytes;
     show_checked(
         b"one empty record:",
-        letter_checker::check(1, &root, &letter),
+        letter_checker::check(&mode, 1, &root, &letter),
     );
     end_line();
 }

@@ -18,10 +18,11 @@ fn write_lent(
     out: &mut [u8],
     room: usize,
 ) -> Written {
+    let mode = digest::plain();
     if room <= out.len() {
-        return letter_writer::write_letter(size, index, rec, nodes, &mut out[..room]);
+        return letter_writer::write_letter(&mode, size, index, rec, nodes, &mut out[..room]);
     }
-    letter_writer::write_letter(size, index, rec, nodes, out)
+    letter_writer::write_letter(&mode, size, index, rec, nodes, out)
 }
 
 // Writes a letter into an output of which room bytes are lent; prints the number, the length, and whether a byte behind that has changed.

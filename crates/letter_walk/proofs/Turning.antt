@@ -6,7 +6,6 @@ use Prim.Native.Nat.{ℕ, zero, suc, _+_, _-_, _*_, _%_, _^_, _≤_, _<_}
 use native.Mathlib.Omega.{arith}
 use lib.ListN.{length}
 use lib.Pow.{pow-mono}
-use Rattle.digest.specs.Digest.{digestOf}
 use Rattle.shape.specs.Tree.{left, right, past}
 use Rattle.shape.specs.Letter.{wayIn}
 use Rattle.shape.specs.Positions.{top, behind, peaksIn, fold}
@@ -91,81 +90,81 @@ pub as-coded : {h n i s from half : ℕ} → Above h n i s from half → (S : �
 as-coded {h = h} {half = half} f S law =
     subst (λ (k : ℕ). S (h - 1) k half) (sym (halves f .below)) (subst (λ (x : ℕ). S (h - 1) (suc (h - 1)) x) (sym (halves f .is)) (law (h - 1)))
 
-module _ (bs items leaf : List ℕ) (n i s from : ℕ) (low w : Trail) (ours theirs : Input) where
+module _ (digest : List ℕ → List ℕ) (bs items leaf : List ℕ) (n i s from : ℕ) (low w : Trail) (ours theirs : Input) where
   -- a fork of half leaves and the rest
   abbrev Forked : ℕ → Type 0
-  Forked half = OneFork low (crown bs half (n - half) (s + (2 * half - 1)) (digestOf (bytesOf ours))) ours theirs w
+  Forked half = OneFork digest low (crown bs half (n - half) (s + (2 * half - 1)) (digest (bytesOf ours))) ours theirs w
 
   abbrev LeftTurn : ℕ → ℕ → ℕ → Type 0
-  LeftTurn g h half = Walkable h n i s from → half < n → i < half → Walked g half i s leaf from bs items low
-      → ours .left .bytes ≡ low .log .bytes → ours .right .bytes ≡ foldFrom digestOf bs (n - half) (s + (2 * half - 1))
+  LeftTurn g h half = Walkable h n i s from → half < n → i < half → Walked digest g half i s leaf from bs items low
+      → ours .left .bytes ≡ low .log .bytes → ours .right .bytes ≡ foldFrom digest bs (n - half) (s + (2 * half - 1))
       → theirs .left .bytes ≡ low .letter .bytes → theirs .right .bytes ≡ nodeIn items (from + low .used)
-      → Forked half → Walked h n i s leaf from bs items w
+      → Forked half → Walked digest h n i s leaf from bs items w
 
   left-turn : (g : ℕ) → LeftTurn g (suc g) (2 ^ g)
   unfolding nodeIn
   left-turn g f p q o el er tl tr j =
       let v = way-left g n i p q in
       let most : 2 ^ g ≤ 2 ^ 31 = pow-mono {i = g} {j = 31} (omega (arith, f .low)) in
-      let r : ours .right .bytes ≡ fold digestOf (nodeIn bs) (peaksIn (suc g) (n - 2 ^ g) (s + (2 * 2 ^ g - 1))) =
-      er ∙ from-any digestOf bs (n - 2 ^ g) (s + (2 * 2 ^ g - 1)) g
+      let r : ours .right .bytes ≡ fold digest (nodeIn bs) (peaksIn (suc g) (n - 2 ^ g) (s + (2 * 2 ^ g - 1))) =
+      er ∙ from-any digest bs (n - 2 ^ g) (s + (2 * 2 ^ g - 1)) g
       (omega (arith, f .most)) (omega arith) (omega (arith, f .most)) (omega (arith, f .near)) in
       let t : top g s ≡ s + (2 * 2 ^ g - 1) - 1 = omega arith in
       let l : ours .left .bytes ≡ nodeIn bs (s + (2 * 2 ^ g - 1) - 1) =
-      el ∙ o .log ∙ ap (fold digestOf (nodeIn bs)) (peaks-full g (2 ^ g) s refl) ∙ ap (nodeIn bs) t in
-      let d = side-left leaf items from v (o .used, tl ∙ o .letter) tr (j .used, j .letter) in
-      walked bs g n s p (f .most) i leaf from items low w ours theirs _ _
-      (sides-are bs g n s p (f .most) ours l r)
-      (seen-left digestOf (nodeIn bs) g n i s p q)
+      el ∙ o .log ∙ ap (fold digest (nodeIn bs)) (peaks-full g (2 ^ g) s refl) ∙ ap (nodeIn bs) t in
+      let d = side-left digest leaf items from v (o .used, tl ∙ o .letter) tr (j .used, j .letter) in
+      walked digest bs g n s p (f .most) i leaf from items low w ours theirs _ _
+      (sides-are digest bs g n s p (f .most) ours l r)
+      (seen-left digest (nodeIn bs) g n i s p q)
       d
-      (inputs-left leaf items from (low .used) _ _ _ _ v (o .used) (tl ∙ o .letter) tr)
+      (inputs-left digest leaf items from (low .used) _ _ _ _ v (o .used) (tl ∙ o .letter) tr)
       (o .first) j
 
   -- a walk to the right begins behind the left side
-  right-walk : (g k : ℕ) → Walked g (n - 2 ^ g) (i - 2 ^ g) (s + (2 * 2 ^ g - 1)) leaf k bs items low
-      → Walked g (n - 2 ^ g) (i - 2 ^ g) (behind g s) leaf k bs items low
+  right-walk : (g k : ℕ) → Walked digest g (n - 2 ^ g) (i - 2 ^ g) (s + (2 * 2 ^ g - 1)) leaf k bs items low
+      → Walked digest g (n - 2 ^ g) (i - 2 ^ g) (behind g s) leaf k bs items low
   right-walk g k o =
       let b : s + (2 * 2 ^ g - 1) ≡ behind g s = omega arith in
-      subst (λ (m : ℕ). Walked g (n - 2 ^ g) (i - 2 ^ g) m leaf k bs items low) b o
+      subst (λ (m : ℕ). Walked digest g (n - 2 ^ g) (i - 2 ^ g) m leaf k bs items low) b o
 
   abbrev WithinTurn : ℕ → ℕ → ℕ → Type 0
   WithinTurn g h half = Walkable h n i s from → half < n → half ≤ i → n - half ≡ half
-      → Walked g (n - half) (i - half) (s + (2 * half - 1)) leaf from bs items low
+      → Walked digest g (n - half) (i - half) (s + (2 * half - 1)) leaf from bs items low
       → ours .left .bytes ≡ nodeIn bs (s + (2 * half - 1) - 1) → ours .right .bytes ≡ low .log .bytes
       → theirs .left .bytes ≡ nodeIn items (from + low .used) → theirs .right .bytes ≡ low .letter .bytes
-      → Forked half → Walked h n i s leaf from bs items w
+      → Forked half → Walked digest h n i s leaf from bs items w
 
   within-turn : (g : ℕ) → WithinTurn g (suc g) (2 ^ g)
   unfolding nodeIn
   within-turn g f p q e o el er tl tr j =
       let v = way-right g n i (omega arith) q in
-      let d = side-right leaf items from v (o .used, tr ∙ o .letter) tl (j .used, j .letter) in
+      let d = side-right digest leaf items from v (o .used, tr ∙ o .letter) tl (j .used, j .letter) in
       let u = right-walk g from o in
-      walked bs g n s p (f .most) i leaf from items low w ours theirs _ _
-      (sides-are bs g n s p (f .most) ours el (er ∙ o .log))
-      (seen-right digestOf (nodeIn bs) g n i s p q)
+      walked digest bs g n s p (f .most) i leaf from items low w ours theirs _ _
+      (sides-are digest bs g n s p (f .most) ours el (er ∙ o .log))
+      (seen-right digest (nodeIn bs) g n i s p q)
       d
-      (inputs-right leaf items from (low .used) _ _ _ _ v (o .used) (tr ∙ o .letter) tl)
+      (inputs-right digest leaf items from (low .used) _ _ _ _ v (o .used) (tr ∙ o .letter) tl)
       (u .first) j
 
   abbrev PastTurn : ℕ → ℕ → ℕ → Type 0
   PastTurn g h half = Walkable h n i s from → half < n → half ≤ i → (n - half ≡ half → ⊥)
-      → Walked g (n - half) (i - half) (s + (2 * half - 1)) leaf (from + 1) bs items low
+      → Walked digest g (n - half) (i - half) (s + (2 * half - 1)) leaf (from + 1) bs items low
       → ours .left .bytes ≡ nodeIn bs (s + (2 * half - 1) - 1) → ours .right .bytes ≡ low .log .bytes
       → theirs .left .bytes ≡ nodeIn items from → theirs .right .bytes ≡ low .letter .bytes
-      → Forked half → Walked h n i s leaf from bs items w
+      → Forked half → Walked digest h n i s leaf from bs items w
 
   past-turn : (g : ℕ) → PastTurn g (suc g) (2 ^ g)
   unfolding nodeIn
   past-turn g f p q e o el er tl tr j =
       let v = way-past g n i p (omega (arith, f .most)) q in
-      let d = side-past leaf items from v (o .used, tr ∙ o .letter) tl (j .used, j .letter) in
+      let d = side-past digest leaf items from v (o .used, tr ∙ o .letter) tl (j .used, j .letter) in
       let u = right-walk g (from + 1) o in
-      walked bs g n s p (f .most) i leaf from items low w ours theirs _ _
-      (sides-are bs g n s p (f .most) ours el (er ∙ o .log))
-      (seen-right digestOf (nodeIn bs) g n i s p q)
+      walked digest bs g n s p (f .most) i leaf from items low w ours theirs _ _
+      (sides-are digest bs g n s p (f .most) ours el (er ∙ o .log))
+      (seen-right digest (nodeIn bs) g n i s p q)
       d
-      (inputs-past leaf items from (low .used) _ _ _ _ v (tr ∙ o .letter) tl)
+      (inputs-past digest leaf items from (low .used) _ _ _ _ v (tr ∙ o .letter) tl)
       (u .first) j
 
   -- as the code has them
@@ -180,9 +179,9 @@ module _ (bs items leaf : List ℕ) (n i s from : ℕ) (low w : Trail) (ours the
     turned-past = as-coded f PastTurn past-turn
 
 -- no turn at a height
-module _ (bs items leaf : List ℕ) (n i s from : ℕ) (w : Trail) where
+module _ (digest : List ℕ → List ℕ) (bs items leaf : List ℕ) (n i s from : ℕ) (w : Trail) where
   abbrev LowTurn : ℕ → ℕ → ℕ → Type 0
-  LowTurn g h half = n ≤ half → Walked g n i s leaf from bs items w → Walked h n i s leaf from bs items w
+  LowTurn g h half = n ≤ half → Walked digest g n i s leaf from bs items w → Walked digest h n i s leaf from bs items w
 
   low-turn : (g : ℕ) → LowTurn g (suc g) (2 ^ g)
   low-turn g p o =
@@ -191,7 +190,7 @@ module _ (bs items leaf : List ℕ) (n i s from : ℕ) (w : Trail) where
         used = rw e (o .used);
         log = rw (peaks-low g n s p) (o .log);
         letter = rw e (o .letter);
-        first = rw (e, seen-low digestOf (nodeIn bs) g n i s p) (o .first);
+        first = rw (e, seen-low digest (nodeIn bs) g n i s p) (o .first);
       }
 
   pub turned-low : {h half : ℕ} → Above h n i s from half → LowTurn (h - 1) h half
@@ -199,7 +198,7 @@ module _ (bs items leaf : List ℕ) (n i s from : ℕ) (w : Trail) where
 
   -- at no height there is one leaf
   pub turned-none : (h : ℕ) → h ≡ 0 → Walkable h n i s from → w .used ≡ 0 → w .log .bytes ≡ nodeIn bs s → w .letter .bytes ≡ leaf
-      → told (w .difference) ≡ agree → Walked h n i s leaf from bs items w
+      → told (w .difference) ≡ agree → Walked digest h n i s leaf from bs items w
   unfolding wayIn seenIn difference
   turned-none zero z f u l t d =
       let e : top 0 s ≡ s = omega arith in

@@ -8,7 +8,6 @@ use native.Mathlib.Omega.{arith}
 use borrow.Author.Tests.{lt-ltb, le-ltb, le-leb, lt-leb}
 use lib.ListN.{length}
 use lib.Pow.{pow-mono}
-use Rattle.digest.specs.Digest.{digestOf}
 use Rattle.shape.specs.Sizes.{heightOf}
 use Rattle.shape.specs.Tree.{root, inputs}
 use Rattle.shape.specs.Letter.{wayIn, way}
@@ -29,14 +28,14 @@ whole-room h n i e p q =
     record { low = l; inside = p; most = m; near = omega (arith, pow-mono {i = h} {j = 32} l); few = omega arith }
 
 -- what a walk from the height of n leaves finds
-pub whole : (bs : List ℕ) (n i : ℕ) (leaf items : List ℕ) {h : ℕ} {w : Trail} → h ≡ heightOf n → Walked h n i 0 leaf 0 bs items w
-    → walkedOff w ≡ walkDone digestOf (nodeIn bs) n i leaf items
+pub whole : (digest : List ℕ → List ℕ) (bs : List ℕ) (n i : ℕ) (leaf items : List ℕ) {h : ℕ} {w : Trail} → h ≡ heightOf n → Walked digest h n i 0 leaf 0 bs items w
+    → walkedOff w ≡ walkDone digest (nodeIn bs) n i leaf items
 unfolding peaks seen way
-whole bs n i leaf items {h} {w} e o =
-    let a = o .log ∙ ap (λ (k : ℕ). fold digestOf (nodeIn bs) (peaksIn (suc k) n 0)) e in
-    let b = o .letter ∙ ap (λ (k : ℕ). root digestOf (lettered k n i leaf 0 items)) e in
+whole digest bs n i leaf items {h} {w} e o =
+    let a = o .log ∙ ap (λ (k : ℕ). fold digest (nodeIn bs) (peaksIn (suc k) n 0)) e in
+    let b = o .letter ∙ ap (λ (k : ℕ). root digest (lettered k n i leaf 0 items)) e in
     let c = o .used ∙ ap (λ (k : ℕ). length (wayIn k n i)) e in
-    let d = o .first ∙ ap (λ (k : ℕ). difference (seenIn digestOf (nodeIn bs) k n i 0) (inputs digestOf (lettered k n i leaf 0 items))) e in
+    let d = o .first ∙ ap (λ (k : ℕ). difference (seenIn digest (nodeIn bs) k n i 0) (inputs digest (lettered k n i leaf 0 items))) e in
     λ j. record { log = a j; letter = b j; used = c j; first = d j }
 
 module _ (digest : List ℕ → List ℕ) (node : ℕ → List ℕ) (n i : ℕ) where

@@ -5,7 +5,6 @@ use mathlib.Core.List.{List, _++_}
 use Prim.Native.Nat.{ℕ, suc, _+_, _-_, _*_, _^_, _≤_, _<_}
 use lib.Dec.{eqb}
 use lib.ListN.{length}
-use Rattle.digest.specs.Digest.{digestOf}
 use Rattle.wire.specs.Slices.{differ, rowsFrom}
 use Rattle.shape.specs.Tree.{Tree, root, inputs}
 use Rattle.shape.specs.Letter.{wayIn, fill}
@@ -22,10 +21,10 @@ unfoldable pub crown : List ℕ → ℕ → ℕ → ℕ → List ℕ → List �
 crown bs half rest mid up = elim (eqb rest half) [ true ↦ nodeIn bs (mid + (2 * half - 1)) | false ↦ up ]
 
 -- 1 where the node on top of such a fork, within a peak, isn't the digest of its two children, else 0
-unfoldable pub topBroken : List ℕ → ℕ → ℕ → ℕ → ℕ
-topBroken bs half rest mid =
+unfoldable pub topBroken : (List ℕ → List ℕ) → List ℕ → ℕ → ℕ → ℕ → ℕ
+topBroken digest bs half rest mid =
     elim (eqb rest half) [
-      | true ↦ differ (nodeIn bs (mid + (2 * half - 1))) (digestOf (nodeIn bs (mid - 1) ++ nodeIn bs (mid + (2 * half - 2))))
+      | true ↦ differ (nodeIn bs (mid + (2 * half - 1))) (digest (nodeIn bs (mid - 1) ++ nodeIn bs (mid + (2 * half - 2))))
       | false ↦ 0
     ]
 
@@ -38,10 +37,10 @@ pub record Forkable (half mid taken : ℕ) : Type 0 where
   pub used : taken ≤ 64
 
 -- one fork above the walk `low`: t stands on top of it
-pub record OneFork (low : Trail) (t : List ℕ) (ours theirs : Input) (w : Trail) : Type 0 where
+pub record OneFork (digest : List ℕ → List ℕ) (low : Trail) (t : List ℕ) (ours theirs : Input) (w : Trail) : Type 0 where
   pub used : w .used ≡ low .used + 1
   pub log : w .log .bytes ≡ t
-  pub letter : w .letter .bytes ≡ digestOf (bytesOf theirs)
+  pub letter : w .letter .bytes ≡ digest (bytesOf theirs)
   pub first : told (w .difference) ≡ above (differ (bytesOf ours) (bytesOf theirs)) (bytesOf ours) (bytesOf theirs) (told (low .difference))
 
 -- a walk to leaf i of n, n at most 2^h, whose nodes begin at position s, with the items from number `from` on
@@ -57,9 +56,9 @@ abbrev pub lettered : ℕ → ℕ → ℕ → List ℕ → ℕ → List ℕ → 
 lettered h n i leaf from items = fill (wayIn h n i) leaf (rowsFrom 32 (32 * from) (length (wayIn h n i)) items)
 
 -- what it finds: the items that it took, the two digests on top, and the first difference of the inputs
-pub record Walked (h n i s : ℕ) (leaf : List ℕ) (from : ℕ) (bs items : List ℕ) (w : Trail) : Type 0 where
+pub record Walked (digest : List ℕ → List ℕ) (h n i s : ℕ) (leaf : List ℕ) (from : ℕ) (bs items : List ℕ) (w : Trail) : Type 0 where
   pub used : w .used ≡ length (wayIn h n i)
-  pub log : w .log .bytes ≡ fold digestOf (nodeIn bs) (peaksIn (suc h) n s)
-  pub letter : w .letter .bytes ≡ root digestOf (lettered h n i leaf from items)
+  pub log : w .log .bytes ≡ fold digest (nodeIn bs) (peaksIn (suc h) n s)
+  pub letter : w .letter .bytes ≡ root digest (lettered h n i leaf from items)
   pub first : told (w .difference)
-      ≡ difference (seenIn digestOf (nodeIn bs) h n i s) (inputs digestOf (lettered h n i leaf from items))
+      ≡ difference (seenIn digest (nodeIn bs) h n i s) (inputs digest (lettered h n i leaf from items))

@@ -1,6 +1,6 @@
 // The walk from the root of the folded tree down to a leaf, the log's side beside the letter's, and whether a node on the way is broken.
 ghost use mathlib.Core.Path.{_≡_};
-ghost use Rattle.digest.specs.Digest.{digestOf};
+ghost use Rattle.digest.specs.Digest.{digestIn};
 ghost use Rattle.nodes.specs.Nodes.{nodeIn};
 ghost use Rattle.letter_walk.specs.Outcome.{walkedOff, walkNone, walkOutcome, brokenOutcome};
 
@@ -32,21 +32,21 @@ fn nothing() -> Trail
 }
 
 // The walk to leaf i of n leaves, n at most 2^32, with the letter's leaf and its items. For other numbers nothing is found: digests all zero.
-pub fn walk_to(nodes: &[u8], items: &[u8], n: u64, i: u64, leaf: Digest) -> Trail
-    ensures { λ r. ⌜ walkedOff r ≡ walkOutcome digestOf (nodeIn (now (nodes .entry))) n i (leaf .bytes) (now (items .entry)) ⌝ }
+pub fn walk_to(mode: &[u8; 36], nodes: &[u8], items: &[u8], n: u64, i: u64, leaf: Digest) -> Trail
+    ensures { λ r. ⌜ walkedOff r ≡ walkOutcome (digestIn (now (mode .entry))) (nodeIn (now (nodes .entry))) n i (leaf .bytes) (now (items .entry)) ⌝ }
 {
     if n <= i || shape::MOST_LEAVES < n {
         return nothing();
     }
-    walk::walk(nodes, items, shape::height(n), n, i, 0, leaf, 0)
+    walk::walk(mode, nodes, items, shape::height(n), n, i, 0, leaf, 0)
 }
 
 // 1 where a node on the way to leaf i of n leaves, n at most 2^32, within its peak, isn't the digest of its two children, else 0.
-pub fn broken_to(nodes: &[u8], n: u64, i: u64) -> u8
-    ensures { λ r. ⌜ r ≡ brokenOutcome digestOf (nodeIn (now (nodes .entry))) n i ⌝ }
+pub fn broken_to(mode: &[u8; 36], nodes: &[u8], n: u64, i: u64) -> u8
+    ensures { λ r. ⌜ r ≡ brokenOutcome (digestIn (now (mode .entry))) (nodeIn (now (nodes .entry))) n i ⌝ }
 {
     if n <= i || shape::MOST_LEAVES < n {
         return 0;
     }
-    broken::on_way(nodes, shape::height(n), n, i, 0)
+    broken::on_way(mode, nodes, shape::height(n), n, i, 0)
 }

@@ -1,6 +1,6 @@
 // The walk from the root of the folded tree down to a leaf, the log's side beside the letter's.
 ghost use mathlib.Core.Path.{_≡_};
-ghost use Rattle.digest.specs.Digest.{digestOf};
+ghost use Rattle.digest.specs.Digest.{digestIn};
 ghost use Rattle.inputs.specs.Inputs.{bytesOf};
 ghost use Rattle.letter_walk.specs.Steps.{crown, Forkable, OneFork, Walkable, Walked};
 use crate::Trail;
@@ -10,6 +10,7 @@ use inputs::Input;
 // What stands on top of a fork whose right side begins at position mid: within a peak the node, above the peaks the digest of the log's input, which
 // is the letter's where the two inputs are the same.
 fn crown(
+    mode: &[u8; 36],
     nodes: &[u8],
     half: u64,
     rest: u64,
@@ -18,8 +19,8 @@ fn crown(
     apart: u8,
     letter: Digest,
 ) -> Digest
-    requires { ⌜ Forkable half mid 0 × (apart ≡ 0 → letter .bytes ≡ digestOf (bytesOf ours)) ⌝ }
-    ensures { λ r. ⌜ r .bytes ≡ crown (now (nodes .entry)) half rest mid (digestOf (bytesOf ours)) ⌝ }
+    requires { ⌜ Forkable half mid 0 × (apart ≡ 0 → letter .bytes ≡ digestIn (now mode) (bytesOf ours)) ⌝ }
+    ensures { λ r. ⌜ r .bytes ≡ crown (now (nodes .entry)) half rest mid (digestIn (now (mode .entry)) (bytesOf ours)) ⌝ }
 {
     if rest == half {
         return nodes::node_at(nodes, mid + (2 * half - 1));
@@ -27,11 +28,12 @@ fn crown(
     if apart == 0 {
         return letter;
     }
-    digest::digest_of_pair(ours.left, ours.right)
+    digest::digest_of_pair(mode, ours.left, ours.right)
 }
 
 // One fork above a walk: what the log hashes there and what the letter hashes.
 fn fork(
+    mode: &[u8; 36],
     nodes: &[u8],
     half: u64,
     rest: u64,
@@ -41,12 +43,12 @@ fn fork(
     theirs: Input,
 ) -> Trail
     requires { ⌜ Forkable half mid (low .used) ⌝ }
-    ensures { λ w. ⌜ OneFork low (crown (now (nodes .entry)) half rest mid (digestOf (bytesOf ours))) ours theirs w ⌝ }
+    ensures { λ w. ⌜ OneFork (digestIn (now (mode .entry))) low (crown (now (nodes .entry)) half rest mid (digestIn (now (mode .entry)) (bytesOf ours))) ours theirs w ⌝ }
 {
     let apart = inputs::inputs_differ(ours, theirs);
     let highest = inputs::higher(low.difference, apart, ours, theirs);
-    let letter = digest::digest_of_pair(theirs.left, theirs.right);
-    let log = crown(nodes, half, rest, mid, ours, apart, letter);
+    let letter = digest::digest_of_pair(mode, theirs.left, theirs.right);
+    let log = crown(mode, nodes, half, rest, mid, ours, apart, letter);
     Trail {
         log,
         letter,
@@ -57,6 +59,7 @@ fn fork(
 
 // The walk to leaf i of n leaves whose nodes begin at position s, n at most 2^h, with the letter's leaf and its items from number `from` on.
 pub(crate) fn walk(
+    mode: &[u8; 36],
     nodes: &[u8],
     items: &[u8],
     h: u32,
@@ -67,7 +70,7 @@ pub(crate) fn walk(
     from: u64,
 ) -> Trail
     requires { ⌜ Walkable h n i s from ⌝ }
-    ensures { λ w. ⌜ Walked h n i s (leaf .bytes) from (now (nodes .entry)) (now (items .entry)) w ⌝ }
+    ensures { λ w. ⌜ Walked (digestIn (now (mode .entry))) h n i s (leaf .bytes) from (now (nodes .entry)) (now (items .entry)) w ⌝ }
 {
     if h == 0 {
         return Trail {
@@ -80,17 +83,18 @@ pub(crate) fn walk(
     let g = h - 1;
     let half = shape::power(g);
     if n <= half {
-        return walk(nodes, items, g, n, i, s, leaf, from);
+        return walk(mode, nodes, items, g, n, i, s, leaf, from);
     }
     let mid = s + (2 * half - 1);
     let rest = n - half;
     if i < half {
-        let low = walk(nodes, items, g, half, i, s, leaf, from);
+        let low = walk(mode, nodes, items, g, half, i, s, leaf, from);
         let left = low.log;
         let own = low.letter;
-        let right = nodes::fold_from(nodes, rest, mid);
+        let right = nodes::fold_from(mode, nodes, rest, mid);
         let side = nodes::node_at(items, from + low.used);
         return fork(
+            mode,
             nodes,
             half,
             rest,
@@ -105,11 +109,12 @@ pub(crate) fn walk(
     }
     let left = nodes::node_at(nodes, mid - 1);
     if rest == half {
-        let low = walk(nodes, items, g, rest, i - half, mid, leaf, from);
+        let low = walk(mode, nodes, items, g, rest, i - half, mid, leaf, from);
         let side = nodes::node_at(items, from + low.used);
         let right = low.log;
         let own = low.letter;
         return fork(
+            mode,
             nodes,
             half,
             rest,
@@ -123,10 +128,11 @@ pub(crate) fn walk(
         );
     }
     let side = nodes::node_at(items, from);
-    let low = walk(nodes, items, g, rest, i - half, mid, leaf, from + 1);
+    let low = walk(mode, nodes, items, g, rest, i - half, mid, leaf, from + 1);
     let right = low.log;
     let own = low.letter;
     fork(
+        mode,
         nodes,
         half,
         rest,

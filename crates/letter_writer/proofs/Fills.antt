@@ -4,7 +4,7 @@ use mathlib.Core.List.{List, [], _++_}
 use Prim.Native.Nat.{ℕ, _+_, _*_, _≤_, _<_}
 use native.Mathlib.Omega.{arith}
 use lib.ListN.{length, length-append}
-use Rattle.digest.specs.Digest.{digestOf, digest-length}
+use Rattle.digest.specs.Digest.{digestIn, digest-length}
 use borrow.Author.Needs.{needs}
 use Rattle.order.specs.Order.{_under_}
 use Rattle.order.proofs.Laws.{Passes}
@@ -51,30 +51,30 @@ module _ (size index : ℕ) (rec : List ℕ) (items : List (List ℕ)) where
       e₅ ∙ written-next 0 (20 + length rec) (a ++ b ++ c ++ rec) (joined items) out l₄ f₄ (omega arith) k
 
 -- our letter, for an index of a log
-module _ {size n : ℕ} (index : ℕ) (rec bs : List ℕ) (k : Counts size n) (h : index < n) where
-  pub our-length : length (ourLetter digestOf size index rec (nodeIn bs)) ≡ 20 + length rec + 32 * itemCount n index
+module _ (mode : List ℕ) {size n : ℕ} (index : ℕ) (rec bs : List ℕ) (k : Counts size n) (h : index < n) where
+  pub our-length : length (ourLetter (digestIn mode) size index rec (nodeIn bs)) ≡ 20 + length rec + 32 * itemCount n index
   unfolding ourLetter
   our-length =
-      letter-bytes size index rec (itemsOf digestOf (nodeIn bs) (leaves size) index)
-      ∙ ap (λ (m : ℕ). 20 + length rec + length (joined (itemsOf digestOf (nodeIn bs) m index))) (k .value)
-      ∙ ap (λ (m : ℕ). 20 + length rec + m) (items-bytes digestOf (nodeIn bs) digest-length (node-length bs) n index h (k .most))
+      letter-bytes size index rec (itemsOf (digestIn mode) (nodeIn bs) (leaves size) index)
+      ∙ ap (λ (m : ℕ). 20 + length rec + length (joined (itemsOf (digestIn mode) (nodeIn bs) m index))) (k .value)
+      ∙ ap (λ (m : ℕ). 20 + length rec + m) (items-bytes (digestIn mode) (nodeIn bs) (digest-length mode) (node-length bs) n index h (k .most))
 
   pub letter-done : (out : List ℕ) {l₁ l₂ l₃ l₄ l₅ : List ℕ} (m : ℕ) → m ≡ 20 + length rec + 32 * itemCount n index → m ≤ length out
       → l₁ ≡ written 0 (be 8 size) out → l₂ ≡ written 8 (be 8 index) l₁ → l₃ ≡ written 16 (be 4 (length rec)) l₂
-      → l₄ ≡ written 20 rec l₃ → l₅ ≡ written (20 + length rec) (joined (itemsOf digestOf (nodeIn bs) n index)) l₄
-      → wrote (record { number = 0; length = m }) l₅ ≡ writeDone (ourLetter digestOf size index rec (nodeIn bs)) out
+      → l₄ ≡ written 20 rec l₃ → l₅ ≡ written (20 + length rec) (joined (itemsOf (digestIn mode) (nodeIn bs) n index)) l₄
+      → wrote (record { number = 0; length = m }) l₅ ≡ writeDone (ourLetter (digestIn mode) size index rec (nodeIn bs)) out
   unfolding ourLetter
   letter-done out {l₅ = l₅} m e fits e₁ e₂ e₃ e₄ e₅ =
-      let b : length (joined (itemsOf digestOf (nodeIn bs) n index)) ≡ 32 * itemCount n index =
-      items-bytes digestOf (nodeIn bs) digest-length (node-length bs) n index h (k .most) in
-      write-done (ourLetter digestOf size index rec (nodeIn bs)) out l₅ m (e ∙ sym our-length)
-      (letter-filled size index rec (itemsOf digestOf (nodeIn bs) n index) out (omega arith) e₁ e₂ e₃ e₄ e₅
-      ∙ ap (λ (x : ℕ). splice 0 (letterBytes size index rec (itemsOf digestOf (nodeIn bs) x index)) out) (sym (k .value)))
+      let b : length (joined (itemsOf (digestIn mode) (nodeIn bs) n index)) ≡ 32 * itemCount n index =
+      items-bytes (digestIn mode) (nodeIn bs) (digest-length mode) (node-length bs) n index h (k .most) in
+      write-done (ourLetter (digestIn mode) size index rec (nodeIn bs)) out l₅ m (e ∙ sym our-length)
+      (letter-filled size index rec (itemsOf (digestIn mode) (nodeIn bs) n index) out (omega arith) e₁ e₂ e₃ e₄ e₅
+      ∙ ap (λ (x : ℕ). splice 0 (letterBytes size index rec (itemsOf (digestIn mode) (nodeIn bs) x index)) out) (sym (k .value)))
 
   -- no refusal applies
-  pub none-applies : (out : List ℕ) → length rec ≤ 16384 → 32 * size ≤ length bs → itemCount n index ≤ 32 → foreign digestOf (nodeIn bs) index rec ≡ 0
+  pub none-applies : (out : List ℕ) → length rec ≤ 16384 → 32 * size ≤ length bs → itemCount n index ≤ 32 → foreign (digestIn mode) (nodeIn bs) index rec ≡ 0
       → 20 + length rec + 32 * itemCount n index ≤ length out
-      → Passes (writeOrder digestOf (nodeIn bs) (length bs under 32 * size) size index rec out)
+      → Passes (writeOrder (digestIn mode) (nodeIn bs) (length bs under 32 * size) size index rec out)
   unfolding writeOrder
   none-applies out short long few own room =
       let e : leaves size ≡ n = k .value in

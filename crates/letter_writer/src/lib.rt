@@ -1,7 +1,7 @@
 // The letter of a record, written from a log's nodes.
 ghost use mathlib.Core.Path.{_≡_};
 ghost use mathlib.Core.List.{[]};
-ghost use Rattle.digest.specs.Digest.{digestOf};
+ghost use Rattle.digest.specs.Digest.{digestIn};
 ghost use Rattle.wire.specs.Writers.{wrote, writeRefused};
 ghost use Rattle.letter_writer.specs.Outcome.{writeOutcome};
 use shape::Counted;
@@ -15,9 +15,16 @@ fn write_refused(number: u32) -> Written
 }
 
 // Writes the letter for an index of a log of this size, with the record at that index. Refuses by 1, 5, 3, 4, 15, 13, 6.
-pub fn write_letter(size: u64, index: u64, rec: &[u8], nodes: &[u8], out: &mut [u8]) -> Written
+pub fn write_letter(
+    mode: &[u8; 36],
+    size: u64,
+    index: u64,
+    rec: &[u8],
+    nodes: &[u8],
+    out: &mut [u8],
+) -> Written
     ensures { λ r. ⌜ wrote r (now (out .exit))
-        ≡ writeOutcome digestOf size index (now (rec .entry)) (now (nodes .entry)) (now (out .entry)) ⌝ }
+        ≡ writeOutcome (digestIn (now (mode .entry))) size index (now (rec .entry)) (now (nodes .entry)) (now (out .entry)) ⌝ }
 {
     let c = shape::leaf_count(size);
     let Counted::Leaves(n) = c else {
@@ -37,7 +44,7 @@ pub fn write_letter(size: u64, index: u64, rec: &[u8], nodes: &[u8], out: &mut [
     if 32 < items {
         return write_refused(15);
     }
-    let own = digest::digest_of(rec);
+    let own = digest::digest_of(mode, rec);
     if letter::leaf::foreign(nodes, index, own) != 0 {
         return write_refused(13);
     }
@@ -49,6 +56,6 @@ pub fn write_letter(size: u64, index: u64, rec: &[u8], nodes: &[u8], out: &mut [
     wire::write8(out, 8, index);
     wire::write4(out, 16, stated as u32);
     wire::write_run(out, letter::HEAD, rec);
-    letter_items::write_items(out, letter::HEAD + stated, nodes, n, index);
+    letter_items::write_items(mode, out, letter::HEAD + stated, nodes, n, index);
     Written { number: 0, length }
 }

@@ -2,7 +2,7 @@
 use mathlib.Core.Path.{_≡_}
 use mathlib.Core.List.{List, [], _∷_, _++_}
 use Prim.Native.Nat.{ℕ, zero, suc, _+_, _*_, _<_}
-use Rattle.digest.specs.Digest.{digestOf}
+use Rattle.digest.specs.Digest.{digestIn}
 use Rattle.wire.specs.Slices.{part, zeros}
 use Rattle.shape.specs.Nodes.{leftOf}
 use Rattle.nodes.specs.Nodes.{nodeIn}
@@ -24,12 +24,12 @@ leftIn saved j = part (32 * j) 32 saved
 pub record Lefts (bs : List ℕ) (s m : ℕ) (saved : List ℕ) : Type 0 where
   pub each : (j : ℕ) → j < m → leftIn saved j ≡ nodeIn bs (leftOf j (s + j))
 
--- the node at height j above x, its left children given by height
-unfoldable pub up : (ℕ → List ℕ) → ℕ → List ℕ → List ℕ
-up left zero x = x
-up left (suc j) x = digestOf (left j ++ up left j x)
+-- the node at height j above x in a mode, its left children given by height
+unfoldable pub up : List ℕ → (ℕ → List ℕ) → ℕ → List ℕ → List ℕ
+up mode left zero x = x
+up mode left (suc j) x = digestIn mode (left j ++ up mode left j x)
 
 -- x and the m nodes above it
-unfoldable pub ups : (ℕ → List ℕ) → ℕ → List ℕ → List (List ℕ)
-ups left zero x = x ∷ []
-ups left (suc m) x = ups left m x ++ (up left (suc m) x ∷ [])
+unfoldable pub ups : List ℕ → (ℕ → List ℕ) → ℕ → List ℕ → List (List ℕ)
+ups mode left zero x = x ∷ []
+ups mode left (suc m) x = ups mode left m x ++ (up mode left (suc m) x ∷ [])

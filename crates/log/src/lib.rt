@@ -1,6 +1,6 @@
 // A log's nodes in a lent buffer: append and root.
 ghost use mathlib.Core.Path.{_≡_};
-ghost use Rattle.digest.specs.Digest.{digestOf};
+ghost use Rattle.digest.specs.Digest.{digestIn};
 ghost use Rattle.log.specs.Outcome.{appended, appendOutcome, rooted, rootOutcome};
 ghost use Rattle.log.specs.Steps.{refusedAppend, refusedRoot};
 
@@ -34,8 +34,8 @@ fn append_refused(number: u32, size: u64) -> Appended
 }
 
 // One more record: the new nodes behind the old, the new size, and how many digests were worked out.
-pub fn append(size: u64, rec: &[u8], nodes: &mut [u8]) -> Appended
-    ensures { λ r. ⌜ appended r (now (nodes .exit)) ≡ appendOutcome digestOf size (now (rec .entry)) (now (nodes .entry)) ⌝ }
+pub fn append(mode: &[u8; 36], size: u64, rec: &[u8], nodes: &mut [u8]) -> Appended
+    ensures { λ r. ⌜ appended r (now (nodes .exit)) ≡ appendOutcome (digestIn (now (mode .entry))) size (now (rec .entry)) (now (nodes .entry)) ⌝ }
 {
     let c = shape::leaf_count(size);
     let Counted::Leaves(n) = c else {
@@ -55,7 +55,7 @@ pub fn append(size: u64, rec: &[u8], nodes: &mut [u8]) -> Appended
     }
     let at = (32 * size) as usize;
     if m == 0 {
-        let leaf = digest::digest_of(rec).bytes;
+        let leaf = digest::digest_of(mode, rec).bytes;
         wire::write_digest(nodes, at, leaf);
         return Appended {
             number: 0,
@@ -64,7 +64,7 @@ pub fn append(size: u64, rec: &[u8], nodes: &mut [u8]) -> Appended
         };
     }
     let lefts = new::lefts(nodes, size, m);
-    new::write_new(&mut nodes[at..], rec, lefts, m);
+    new::write_new(mode, &mut nodes[at..], rec, lefts, m);
     Appended {
         number: 0,
         size: grown,
@@ -83,8 +83,8 @@ fn root_refused(number: u32) -> Rooted
 }
 
 // The root of a log.
-pub fn root(size: u64, nodes: &[u8]) -> Rooted
-    ensures { λ r. ⌜ rooted r ≡ rootOutcome digestOf size (now (nodes .entry)) ⌝ }
+pub fn root(mode: &[u8; 36], size: u64, nodes: &[u8]) -> Rooted
+    ensures { λ r. ⌜ rooted r ≡ rootOutcome (digestIn (now (mode .entry))) size (now (nodes .entry)) ⌝ }
 {
     let c = shape::leaf_count(size);
     let Counted::Leaves(n) = c else {
@@ -96,6 +96,6 @@ pub fn root(size: u64, nodes: &[u8]) -> Rooted
     if (nodes.len() as u64) < 32 * size {
         return root_refused(4);
     }
-    let root = nodes::fold_from(nodes, n, 0);
+    let root = nodes::fold_from(mode, nodes, n, 0);
     Rooted { number: 0, root }
 }

@@ -2,7 +2,7 @@
 ghost use mathlib.Core.Path.{_≡_};
 ghost use Prim.Native.Nat.{_+_, _*_, _^_, _≤_};
 ghost use lib.ListN.{length};
-ghost use Rattle.digest.specs.Digest.{digestOf};
+ghost use Rattle.digest.specs.Digest.{digestIn};
 ghost use Rattle.wire.specs.Slices.{splice, joined};
 ghost use Rattle.log.specs.Steps.{Lefts, leftIn, ups};
 use digest::Digest;
@@ -32,18 +32,18 @@ pub(crate) fn lefts(nodes: &[u8], size: u64, m: u32) -> Saved
 }
 
 // The leaf and its m parents, into the front of the part that is lent.
-pub(crate) fn write_new(tail: &mut [u8], rec: &[u8], saved: Saved, m: u32)
+pub(crate) fn write_new(mode: &[u8; 36], tail: &mut [u8], rec: &[u8], saved: Saved, m: u32)
     requires { ⌜ (m ≤ 32) × (32 * (1 + m) ≤ length (now tail)) ⌝ }
-    ensures { λ _. ⌜ now (tail .exit) ≡ splice 0 (joined (ups (leftIn (saved .bytes)) m (digestOf (now (rec .entry))))) (now (tail .entry)) ⌝ }
+    ensures { λ _. ⌜ now (tail .exit) ≡ splice 0 (joined (ups (now (mode .entry)) (leftIn (saved .bytes)) m (digestIn (now (mode .entry)) (now (rec .entry))))) (now (tail .entry)) ⌝ }
 {
     let bytes = saved.bytes;
-    let mut top = digest::digest_of(rec);
+    let mut top = digest::digest_of(mode, rec);
     let leaf = top.bytes;
     wire::write_digest(tail, 0, leaf);
     let mut j: u32 = 0;
     while j < m {
         let left = wire::read_digest(&bytes, 32 * (j as usize));
-        let next = digest::digest_of_pair(Digest { bytes: left }, top);
+        let next = digest::digest_of_pair(mode, Digest { bytes: left }, top);
         top = next;
         j += 1;
         let parent = next.bytes;

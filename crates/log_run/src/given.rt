@@ -41,11 +41,13 @@ pub(crate) fn append_lent(
     nodes: &mut [u8],
     lent: usize,
 ) -> Appended {
+    let mode = digest::plain();
     let room = least(lent, nodes.len());
-    log::append(size, front(rec, n), &mut nodes[..room])
+    log::append(&mode, size, front(rec, n), &mut nodes[..room])
 }
 
 // A root, where the first `lent` bytes of the buffer are lent.
 pub(crate) fn root_lent(size: u64, nodes: &[u8], lent: usize) -> Rooted {
-    log::root(size, front(nodes, lent))
+    let mode = digest::plain();
+    log::root(&mode, size, front(nodes, lent))
 }

@@ -19,15 +19,17 @@ const LENGTHS: [usize; 11] = [0, 1, 31, 32, 33, 63, 64, 65, 200, 1024, 16384];
 
 // The digests of the nodes and of the bytes beyond the size.
 fn show_parts(size: u64, nodes: &[u8]) {
+    let mode = digest::plain();
     let at = edge_of(size, nodes.len());
-    show_digest(b"  nodes ", digest::digest_of(&nodes[..at]));
-    show_digest(b"  beyond ", digest::digest_of(&nodes[at..]));
+    show_digest(b"  nodes ", digest::digest_of(&mode, &nodes[..at]));
+    show_digest(b"  beyond ", digest::digest_of(&mode, &nodes[at..]));
 }
 
 // The digests of the two parts, and the root.
 fn show_state(size: u64, nodes: &[u8; 2624]) {
+    let mode = digest::plain();
     show_parts(size, nodes);
-    show_rooted(b"  root ", log::root(size, nodes));
+    show_rooted(b"  root ", log::root(&mode, size, nodes));
 }
 
 // The lines of an append of the first n bytes of record i.
@@ -61,7 +63,8 @@ fn run(nodes: &mut [u8; 2624], shown: bool) -> u64 {
 
 // The digest of the whole buffer, after its label.
 fn show_whole(label: &[u8], nodes: &[u8; 2624]) {
-    show_digest(label, digest::digest_of(nodes));
+    let mode = digest::plain();
+    show_digest(label, digest::digest_of(&mode, nodes));
 }
 
 // What an append is given.

@@ -3,7 +3,6 @@ use mathlib.Core.Path.{_≡_, sym, ap, ap₂, _∙_}
 use mathlib.Core.List.{List, _∷_, _++_}
 use Prim.Native.Nat.{ℕ, zero, suc, _+_, _-_, _*_, _%_, _^_, _≤_, _<_}
 use native.Mathlib.Omega.{arith}
-use Rattle.digest.specs.Digest.{digestOf}
 use Rattle.shape.specs.Positions.{top, behind, peaksIn, fold}
 use Rattle.shape.proofs.Powers.{Halved, halved}
 use Rattle.shape.proofs.Peaks.{peaks-skip, peaks-take, peaks-none, peaks-some}
@@ -37,10 +36,10 @@ module _ (k n s : ℕ) (room : Foldable k n s) where
           near = omega (arith, halves, room .near, half-bounds .0);
         }
 
-    module _ (node : ℕ → List ℕ) where
-      pub fold-skip : n < half → fold digestOf node (peaksIn (k - 1) n s) ≡ fold digestOf node (peaksIn k n s)
+    module _ (digest : List ℕ → List ℕ) (node : ℕ → List ℕ) where
+      pub fold-skip : n < half → fold digest node (peaksIn (k - 1) n s) ≡ fold digest node (peaksIn k n s)
       fold-skip h =
-          ap (fold digestOf node) (sym (ap (λ (j : ℕ). peaksIn j n s) (halves .below) ∙ peaks-skip (k - 1) n s (omega (arith, halves .is))))
+          ap (fold digest node) (sym (ap (λ (j : ℕ). peaksIn j n s) (halves .below) ∙ peaks-skip (k - 1) n s (omega (arith, halves .is))))
 
       -- the tallest peak, and the rest
       tallest : half ≤ n → peaksIn k n s ≡ (s + (2 * half - 2)) ∷ peaksIn (k - 1) (n - half) (s + (2 * half - 2) + 1)
@@ -53,17 +52,17 @@ module _ (k n s : ℕ) (room : Foldable k n s) where
           ∙ ap₂ {C = List ℕ} (λ (p : ℕ) (ps : List ℕ). p ∷ ps) t
           (ap₂ (λ (m p : ℕ). peaksIn (k - 1) m p) (let z : n - 2 ^ (k - 1) ≡ n - half = omega (arith, halves .is) in z) b)
 
-      pub fold-one : half ≤ n → n - half ≡ 0 → node (s + (2 * half - 2)) ≡ fold digestOf node (peaksIn k n s)
+      pub fold-one : half ≤ n → n - half ≡ 0 → node (s + (2 * half - 2)) ≡ fold digest node (peaksIn k n s)
       fold-one h z =
-          sym (ap (fold digestOf node)
+          sym (ap (fold digest node)
           (tallest h ∙ ap {B = List ℕ} (λ ps. (s + (2 * half - 2)) ∷ ps)
           (ap (λ (m : ℕ). peaksIn (k - 1) m (s + (2 * half - 2) + 1)) z ∙ peaks-none (k - 1) (s + (2 * half - 2) + 1))))
 
-      pub fold-more : {d l r : List ℕ} → half ≤ n → (n - half ≡ 0 → ⊥) → d ≡ digestOf (l ++ r) → l ≡ node (s + (2 * half - 2))
-          → r ≡ fold digestOf node (peaksIn (k - 1) (n - half) (s + (2 * half - 2) + 1)) → d ≡ fold digestOf node (peaksIn k n s)
+      pub fold-more : {d l r : List ℕ} → half ≤ n → (n - half ≡ 0 → ⊥) → d ≡ digest (l ++ r) → l ≡ node (s + (2 * half - 2))
+          → r ≡ fold digest node (peaksIn (k - 1) (n - half) (s + (2 * half - 2) + 1)) → d ≡ fold digest node (peaksIn k n s)
       fold-more h z e el er =
           let rest = room-rest h z in
-          e ∙ ap₂ (λ (x y : List ℕ). digestOf (x ++ y)) el er
-          ∙ sym (ap (fold digestOf node) (tallest h)
-          ∙ fold-cons digestOf node (s + (2 * half - 2)) (peaksIn (k - 1) (n - half) (s + (2 * half - 2) + 1))
+          e ∙ ap₂ (λ (x y : List ℕ). digest (x ++ y)) el er
+          ∙ sym (ap (fold digest node) (tallest h)
+          ∙ fold-cons digest node (s + (2 * half - 2)) (peaksIn (k - 1) (n - half) (s + (2 * half - 2) + 1))
           (peaks-some (k - 1) (n - half) (s + (2 * half - 2) + 1) (rest .some) (rest .few)))

@@ -1,6 +1,6 @@
 // The one reader of a log's nodes: the digest at a position, and peaks folded from the right.
 ghost use mathlib.Core.Path.{_≡_};
-ghost use Rattle.digest.specs.Digest.{digestOf};
+ghost use Rattle.digest.specs.Digest.{digestIn};
 ghost use Rattle.shape.specs.Positions.{peaksIn, fold};
 ghost use Rattle.nodes.specs.Nodes.{nodeIn, foldFrom};
 ghost use Rattle.nodes.specs.Steps.{Foldable};
@@ -38,24 +38,24 @@ pub fn node_at(nodes: &[u8], p: u64) -> Digest
 }
 
 // The peaks of n leaves, 1 to 2^32, whose nodes begin at position s, at most 2^34, folded: zeros for other numbers.
-pub fn fold_from(nodes: &[u8], n: u64, s: u64) -> Digest
-    ensures { λ r. ⌜ r .bytes ≡ foldFrom digestOf (now (nodes .entry)) n s ⌝ }
+pub fn fold_from(mode: &[u8; 36], nodes: &[u8], n: u64, s: u64) -> Digest
+    ensures { λ r. ⌜ r .bytes ≡ foldFrom (digestIn (now (mode .entry))) (now (nodes .entry)) n s ⌝ }
 {
     if n == 0 || shape::MOST_LEAVES < n || MOST_START < s {
         return Digest { bytes: [0u8; 32] };
     }
-    folded(nodes, shape::height(n) + 1, n, s)
+    folded(mode, nodes, shape::height(n) + 1, n, s)
 }
 
 // The peaks of n leaves, n above 0 and below 2^k, whose nodes begin at position s, folded.
-fn folded(nodes: &[u8], k: u32, n: u64, s: u64) -> Digest
+fn folded(mode: &[u8; 36], nodes: &[u8], k: u32, n: u64, s: u64) -> Digest
     requires { ⌜ Foldable k n s ⌝ }
-    ensures { λ r. ⌜ r .bytes ≡ fold digestOf (nodeIn (now (nodes .entry))) (peaksIn k n s) ⌝ }
+    ensures { λ r. ⌜ r .bytes ≡ fold (digestIn (now (mode .entry))) (nodeIn (now (nodes .entry))) (peaksIn k n s) ⌝ }
 {
     let h = k - 1;
     let half = shape::power(h);
     if n < half {
-        return folded(nodes, h, n, s);
+        return folded(mode, nodes, h, n, s);
     }
     let top = s + (2 * half - 2);
     let left = node_at(nodes, top);
@@ -63,6 +63,6 @@ fn folded(nodes: &[u8], k: u32, n: u64, s: u64) -> Digest
     if rest == 0 {
         return left;
     }
-    let right = folded(nodes, h, rest, top + 1);
-    digest::digest_of_pair(left, right)
+    let right = folded(mode, nodes, h, rest, top + 1);
+    digest::digest_of_pair(mode, left, right)
 }

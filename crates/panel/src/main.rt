@@ -18,7 +18,8 @@ fn verdict(input: &[u8], out: &mut [u8; 20]) -> usize
     ensures { λ r. ⌜ ((whole : List ℕ) → now (input .entry) ≡ take 17469 whole
         → take r (now (out .exit)) ≡ digits 10 r (judged digestOf whole)) ⌝ }
 {
-    io::decimal(letter_checker::judge(input) as u64, out)
+    let mode = digest::plain();
+    io::decimal(letter_checker::judge(&mode, input) as u64, out)
 }
 
 // The one buffer: the longest letter, with size and root before it, and a byte more.

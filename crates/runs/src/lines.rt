@@ -48,7 +48,8 @@ pub fn say_hex(label: &[u8], bytes: [u8; 32]) -> usize
 pub fn say_digest(label: &[u8], bytes: &[u8]) -> usize
     ensures { λ r. ⌜ r ≡ length (now (label .entry)) + 64 ⌝ }
 {
-    let d = digest::digest_of(bytes);
+    let mode = digest::plain();
+    let d = digest::digest_of(&mode, bytes);
     let b = d.bytes;
     say_hex(label, b)
 }

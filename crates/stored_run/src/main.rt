@@ -81,10 +81,11 @@ fn show_written(written: Written, out: &[u8]) {
 
 // A line on writing the leaf of a record: its length, the buffer's, the buffer's digest before.
 fn show_leaf(rec: &[u8], out: &mut [u8]) {
+    let mode = digest::plain();
     let numbers = [rec.len() as u64, out.len() as u64];
     say_numbers(b"leaf", &numbers);
     say_digest(b" ", out);
-    show_written(stored_writer::write_leaf(rec, out), out);
+    show_written(stored_writer::write_leaf(&mode, rec, out), out);
 }
 
 // The same for the first n bytes as the record, and the first room bytes as the buffer.

@@ -1,13 +1,13 @@
 // Stored nodes, written.
 ghost use mathlib.Core.Path.{_≡_};
-ghost use Rattle.digest.specs.Digest.{digestOf};
+ghost use Rattle.digest.specs.Digest.{digestIn};
 ghost use Rattle.wire.specs.Writers.{wrote};
 ghost use Rattle.stored_writer.specs.Outcome.{leafOutcome, innerOutcome};
 use wire::Written;
 
 // Writes a leaf, its digest worked out from the record. Refuses by 3, 6.
-pub fn write_leaf(rec: &[u8], out: &mut [u8]) -> Written
-    ensures { λ r. ⌜ wrote r (now (out .exit)) ≡ leafOutcome digestOf (now (rec .entry)) (now (out .entry)) ⌝ }
+pub fn write_leaf(mode: &[u8; 36], rec: &[u8], out: &mut [u8]) -> Written
+    ensures { λ r. ⌜ wrote r (now (out .exit)) ≡ leafOutcome (digestIn (now (mode .entry))) (now (rec .entry)) (now (out .entry)) ⌝ }
 {
     let n = rec.len();
     if wire::LONGEST_RECORD < n {
@@ -23,7 +23,7 @@ pub fn write_leaf(rec: &[u8], out: &mut [u8]) -> Written
             length: 0,
         };
     }
-    let digest = digest::digest_of(rec);
+    let digest = digest::digest_of(mode, rec);
     let bytes = digest.bytes;
     wire::write_byte(out, 0, 1);
     wire::write_digest(out, 1, bytes);

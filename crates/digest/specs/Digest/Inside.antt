@@ -2,9 +2,10 @@
 use mathlib.Core.Path.{_≡_, refl}
 use mathlib.Core.List.{List}
 use Prim.Native.Nat.{ℕ}
-use Rattle.blake.specs.Blake.{plainHash}
-use Rattle.digest.specs.Digest.{digestOf}
+use Rattle.blake.specs.Blake.{hashIn}
+use Rattle.digest.specs.Modes.{numberIn, keyIn}
+use Rattle.digest.specs.Digest.{digestIn}
 
-pub opened : (bs : List ℕ) → plainHash bs ≡ digestOf bs
-unfolding digestOf
-opened bs = refl
+pub opened : (mode bs : List ℕ) → hashIn (numberIn mode) (keyIn mode) bs ≡ digestIn mode bs
+unfolding digestIn
+opened mode bs = refl

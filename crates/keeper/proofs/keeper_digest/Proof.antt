@@ -6,12 +6,12 @@ use Rattle.keeper.proofs.keeper_digest.Statement.{statement}
 use Rattle.keeper.proofs.keeper_digest.Tie as tie
 
 returns : tie.Need-returns
-returns c = let a = c .before .before .before .args in digest-short (a .bytes .now) (a .out .now) (c .if1 .taken)
+returns c = let a = c .before .before .before .args in digest-short (a .mode .now) (a .bytes .now) (a .out .now) (c .if1 .taken)
 
 returns-2 : tie.Need-returns-2
 returns-2 c =
     let a = c .before .before .before .before .before .before .before .before .before .args in
-    digest-done (a .bytes .now) (a .out .now) _ _ (c .before .before .before .before .before .digest-of .ensures) (omega arith)
+    digest-done (a .mode .now) (a .bytes .now) (a .out .now) _ _ (c .before .before .before .before .before .digest-of .ensures) (omega arith)
     (c .before .before .write-digest .ensures)
 
 pub keeper-digest-spec : {M : Type 1} → statement M

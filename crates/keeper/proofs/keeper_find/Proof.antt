@@ -9,14 +9,14 @@ returns : tie.Need-returns
 returns c =
     let b = c .before .before .before .before .before .before in
     let a = b .before .before .before .before .before .before .before .before .args in
-    find-refused (a .size) (a .nodes .now) (a .rec .now) (a .letter .now) (a .first .now) (a .second .now) (a .found .now)
+    find-refused (a .mode .now) (a .size) (a .nodes .now) (a .rec .now) (a .letter .now) (a .first .now) (a .second .now) (a .found .now)
     (b .find .result) _ _ (b .find .ensures) (λ z. omega arith)
 
 returns-2 : tie.Need-returns-2
 returns-2 c =
     let b = c .before .before .before .before .before .before .before in
     let a = b .before .before .before .before .before .before .before .before .args in
-    find-done (a .size) (a .nodes .now) (a .rec .now) (a .letter .now) (a .first .now) (a .second .now) (a .found .now)
+    find-done (a .mode .now) (a .size) (a .nodes .now) (a .rec .now) (a .letter .now) (a .first .now) (a .second .now) (a .found .now)
     (b .find .result) _ _ (b .find .ensures) _ (c .finding-number .ensures) (omega arith)
 
 pub keeper-find-spec : {M : Type 1} → statement M

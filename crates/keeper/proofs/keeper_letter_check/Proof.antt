@@ -9,14 +9,14 @@ returns : tie.Need-returns
 returns c =
     let a = c .before .before .before .before .before .args in
     let r = c .before .before .check in
-    check-refused (a .size) (a .root .now) (a .letter .now) (a .index .now) (a .record-at .now) (a .record-len .now) (r .result) (r .ensures)
+    check-refused (a .mode .now) (a .size) (a .root .now) (a .letter .now) (a .index .now) (a .record-at .now) (a .record-len .now) (r .result) (r .ensures)
     (λ z. omega arith)
 
 returns-2 : tie.Need-returns-2
 returns-2 c =
     let a = c .before .before .before .before .before .args in
     let r = c .before .before .check in
-    check-done (a .size) (a .root .now) (a .letter .now) (a .index .now) (a .record-at .now) (a .record-len .now) (r .result) (r .ensures)
+    check-done (a .mode .now) (a .size) (a .root .now) (a .letter .now) (a .index .now) (a .record-at .now) (a .record-len .now) (r .result) (r .ensures)
     (omega arith)
 
 pub keeper-letter-check-spec : {M : Type 1} → statement M

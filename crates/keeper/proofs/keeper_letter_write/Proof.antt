@@ -1,6 +1,6 @@
 -- `keeper::keeper_letter_write` meets its contract: what the writer answers, and the length where it is done.
 use native.Mathlib.Omega.{arith}
-use Rattle.digest.specs.Digest.{digestOf}
+use Rattle.digest.specs.Digest.{digestIn}
 use Rattle.letter_writer.specs.Outcome.{writeOutcome}
 use Rattle.keeper.specs.Letters.{letterWriteCall}
 use Rattle.keeper.proofs.Laws.{write-refused, write-done}
@@ -13,7 +13,7 @@ unfolding letterWriteCall
 returns c =
     let a = c .before .before .before .before .before .before .before .before .before .args in
     let w = c .before .before .before .before .write-letter in
-    write-refused (writeOutcome digestOf (a .size) (a .index) (a .rec .now) (a .nodes .now) (a .out .now)) (a .length .now) (w .result) _
+    write-refused (writeOutcome (digestIn (a .mode .now)) (a .size) (a .index) (a .rec .now) (a .nodes .now) (a .out .now)) (a .length .now) (w .result) _
     (w .ensures) (λ z. omega arith)
 
 returns-2 : tie.Need-returns-2
@@ -21,7 +21,7 @@ unfolding letterWriteCall
 returns-2 c =
     let a = c .before .before .before .before .before .before .before .before .before .args in
     let w = c .before .before .before .before .write-letter in
-    write-done (writeOutcome digestOf (a .size) (a .index) (a .rec .now) (a .nodes .now) (a .out .now)) (a .length .now) (w .result) _
+    write-done (writeOutcome (digestIn (a .mode .now)) (a .size) (a .index) (a .rec .now) (a .nodes .now) (a .out .now)) (a .length .now) (w .result) _
     (w .ensures) (omega arith)
 
 pub keeper-letter-write-spec : {M : Type 1} → statement M

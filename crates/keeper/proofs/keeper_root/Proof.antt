@@ -11,20 +11,20 @@ returns : tie.Need-returns
 returns c =
     let a = c .before .before .before .before .before .args in
     let r = c .before .before .root in
-    root-refused (a .size) (a .nodes .now) (a .out .now) (r .result) (r .ensures) (λ z. omega arith)
+    root-refused (a .mode .now) (a .size) (a .nodes .now) (a .out .now) (r .result) (r .ensures) (λ z. omega arith)
 
 returns-2 : tie.Need-returns-2
 returns-2 c =
     let a = c .before .before .before .before .before .before .args in
     let r = c .before .before .before .root in
-    root-short (a .size) (a .nodes .now) (a .out .now) (r .result) (r .ensures) (omega arith) (omega arith)
+    root-short (a .mode .now) (a .size) (a .nodes .now) (a .out .now) (r .result) (r .ensures) (omega arith) (omega arith)
 
 returns-3 : tie.Need-returns-3
 returns-3 c =
     let a = c .before .before .before .before .before .before .before .before .before .before .before .before .args in
     let r = c .before .before .before .before .before .before .before .before .before .root in
     let full : length (r .result .root .bytes) ≡ 32 = sym (length-map (r .result .root .bytes) (λ v. v)) ∙ r .ok .1 .1 .1 .0 .1 .1 .0 .1 .0 .1 in
-    root-done (a .size) (a .nodes .now) (a .out .now) (r .result) (r .ensures) _ (omega arith) (omega arith) full (c .before .before .write-digest .ensures)
+    root-done (a .mode .now) (a .size) (a .nodes .now) (a .out .now) (r .result) (r .ensures) _ (omega arith) (omega arith) full (c .before .before .write-digest .ensures)
 
 pub keeper-root-spec : {M : Type 1} → statement M
 keeper-root-spec =

@@ -1,6 +1,6 @@
 -- `keeper::keeper_store_leaf` meets its contract: what the writer answers, and the length where it is done.
 use native.Mathlib.Omega.{arith}
-use Rattle.digest.specs.Digest.{digestOf}
+use Rattle.digest.specs.Digest.{digestIn}
 use Rattle.stored_writer.specs.Outcome.{leafOutcome}
 use Rattle.keeper.specs.Nodes.{storeLeafCall}
 use Rattle.keeper.proofs.Laws.{write-refused, write-done}
@@ -13,14 +13,14 @@ unfolding storeLeafCall
 returns c =
     let a = c .before .before .before .before .before .before .before .before .args in
     let w = c .before .before .before .before .write-leaf in
-    write-refused (leafOutcome digestOf (a .rec .now) (a .out .now)) (a .length .now) (w .result) _ (w .ensures) (λ z. omega arith)
+    write-refused (leafOutcome (digestIn (a .mode .now)) (a .rec .now) (a .out .now)) (a .length .now) (w .result) _ (w .ensures) (λ z. omega arith)
 
 returns-2 : tie.Need-returns-2
 unfolding storeLeafCall
 returns-2 c =
     let a = c .before .before .before .before .before .before .before .before .args in
     let w = c .before .before .before .before .write-leaf in
-    write-done (leafOutcome digestOf (a .rec .now) (a .out .now)) (a .length .now) (w .result) _ (w .ensures) (omega arith)
+    write-done (leafOutcome (digestIn (a .mode .now)) (a .rec .now) (a .out .now)) (a .length .now) (w .result) _ (w .ensures) (omega arith)
 
 pub keeper-store-leaf-spec : {M : Type 1} → statement M
 keeper-store-leaf-spec =

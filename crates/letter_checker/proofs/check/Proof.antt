@@ -4,7 +4,7 @@ use mathlib.Core.List.{List}
 use Prim.Native.Nat.{ℕ}
 use native.Mathlib.Omega.{arith}
 use Rattle.order.proofs.Laws.{refuses}
-use Rattle.digest.specs.Digest.{digestOf}
+use Rattle.digest.specs.Digest.{digestIn}
 use Rattle.shape.specs.Sizes.{leaves}
 use Rattle.shape.proofs.Counting.{Counts, counts-leaves, counts-none}
 use Rattle.letter.specs.Items.{workedRoot}
@@ -33,6 +33,9 @@ returns-2 c = let k = known (c .before .before) in refuses 12 _ _ _ (c .check-re
 
 -- the letter taken apart, for the leaf count of the size
 module _ (c : tie.After-take-apart) where
+  abbrev digest : List ℕ → List ℕ
+  digest = digestIn (c .before .before .before .before .before .before .before .before .args .mode .now)
+
   abbrev size : ℕ
   size = c .before .before .before .before .before .before .before .before .args .size
 
@@ -46,8 +49,8 @@ module _ (c : tie.After-take-apart) where
   fielded = c .take-apart .ensures ∙ ap (λ (n : ℕ). fieldsOutcome size n bytes) (sym (known (c .before .before) .value))
 
   refused : {o : CheckOutcome} → (c .take-apart .result .number ≡ 0 → ⊥) → o ≡ checkRefused (c .take-apart .result .number)
-      → o ≡ checkOutcome digestOf size trusted bytes
-  refused = fields-refuse digestOf size trusted bytes (known (c .before .before) .number) (c .before .if1 .left) fielded
+      → o ≡ checkOutcome digest size trusted bytes
+  refused = fields-refuse digest size trusted bytes (known (c .before .before) .number) (c .before .if1 .left) fielded
 
 returns-3 : tie.Need-returns-3
 returns-3 c = refused (c .before .before .before) (c .before .if2 .taken) (c .check-refused3 .ensures)
@@ -79,17 +82,17 @@ module _ (c : tie.After-root-of) where
   abbrev apart-place : tie.After-take-apart
   apart-place = c .before .before .before .before .before .before
 
-  worked : c .root-of .result .bytes ≡ workedRoot digestOf (leaves (size apart-place)) (bytes apart-place)
+  worked : c .root-of .result .bytes ≡ workedRoot (digest apart-place) (leaves (size apart-place)) (bytes apart-place)
   worked =
       let t = c .before .before .before .before in
-      worked-slices (size apart-place) (leaves (size apart-place)) (bytes apart-place) (fielded apart-place) (taken t) digestOf
+      worked-slices (size apart-place) (leaves (size apart-place)) (bytes apart-place) (fielded apart-place) (taken t) (digest apart-place)
       (rw (known (apart-place .before .before) .value) (c .root-of .ensures))
 
 returns-4 : tie.Need-returns-4
 returns-4 c =
     let r = c .before .before .before .before .before in
     let p = apart-place r in
-    root-refuses digestOf (size p) (trusted p) (bytes p) (known (p .before .before) .number) (p .before .if1 .left) (fielded p)
+    root-refuses (digest p) (size p) (trusted p) (bytes p) (known (p .before .before) .number) (p .before .if1 .left) (fielded p)
     (taken (r .before .before .before .before))
     (worked r) (λ z. omega (arith, c .before .if3 .taken, c .before .before .differ .ensures, z)) (c .check-refused4 .ensures)
 
@@ -97,7 +100,7 @@ returns-5 : tie.Need-returns-5
 returns-5 c =
     let r = c .before .before .before .before in
     let p = apart-place r in
-    all-pass digestOf (size p) (trusted p) (bytes p) (known (p .before .before) .number) (p .before .if1 .left) (fielded p) (taken (r .before .before .before .before))
+    all-pass (digest p) (size p) (trusted p) (bytes p) (known (p .before .before) .number) (p .before .if1 .left) (fielded p) (taken (r .before .before .before .before))
     (worked r) (omega (arith, c .before .differ .ensures, c .if3 .left))
 
 pub check-spec : {M : Type 1} → statement M

@@ -5,7 +5,7 @@ use native.Mathlib.Omega.{arith}
 use lib.ListN.{length}
 use Rattle.wire.specs.Lent.{partOf}
 use Rattle.wire.proofs.Lent.{slice-part, lent-part}
-use Rattle.digest.specs.Digest.{digestOf}
+use Rattle.digest.specs.Digest.{digestIn}
 use Rattle.letter_checker.specs.Outcome.{CheckOutcome}
 use Rattle.letter_checker.proofs.Accepted.{record-within}
 use borrow.Author.Needs.{needs}
@@ -17,7 +17,7 @@ within : (c : tie.After-check) → c .check .result .start + c .check .result .l
 within c =
     let a = c .before .before .before .args in
     rw (ap (λ (o : CheckOutcome). o .start) (c .check .ensures), ap (λ (o : CheckOutcome). o .length) (c .check .ensures))
-    (record-within digestOf (a .size) (a .root .now) (a .letter .now))
+    (record-within (digestIn (a .mode .now)) (a .size) (a .root .now) (a .letter .now))
 
 add-result : tie.Need-add-result
 add-result c = let w = within (c .before) in search needs

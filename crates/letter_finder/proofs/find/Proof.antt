@@ -3,7 +3,7 @@ use mathlib.Core.Path.{sym, _∙_}
 use mathlib.Core.List.{List}
 use Prim.Native.Nat.{ℕ, _*_}
 use native.Mathlib.Omega.{arith}
-use Rattle.digest.specs.Digest.{digestOf}
+use Rattle.digest.specs.Digest.{digestIn}
 use lib.ListN.{length}
 use Rattle.order.specs.Order.{_under_}
 use Rattle.order.proofs.Laws.{refuses, passes}
@@ -36,7 +36,7 @@ returns c =
     let counted = c .before .before .before in
     let a = counted .before .before .before .before .before .before .args in
     let k = counts-none (a .size) (counted .leaf-count .ensures) (c .before .enum-told .given .1) in
-    refuses 1 _ _ _ (refused-as _ _ 1 (c .find-refused .ensures)) (search needs) ∙ sym (find-parts digestOf _ (a .size) _ _ _ _ _)
+    refuses 1 _ _ _ (refused-as _ _ 1 (c .find-refused .ensures)) (search needs) ∙ sym (find-parts (digestIn (a .mode .now)) _ (a .size) _ _ _ _ _)
 
 returns-2 : tie.Need-returns-2
 unfolding findOutcome rootOrder
@@ -44,7 +44,7 @@ returns-2 c =
     let known-at = c .before .before in
     let k = known known-at in
     refuses 10 _ _ _ (refused-as _ _ 10 (c .find-refused2 .ensures)) (search needs)
-    ∙ sym (find-parts digestOf _ (start known-at .args .size) _ _ _ _ _)
+    ∙ sym (find-parts (digestIn (start known-at .args .mode .now)) _ (start known-at .args .size) _ _ _ _ _)
 
 mul-if2 : tie.Need-mul-if2
 mul-if2 c = let k = known (c .before) in omega (arith, size-le (n (c .before)))
@@ -55,7 +55,7 @@ returns-3 c =
     let known-at = c .before .before .before in
     let k = known known-at in
     refuses 4 _ _ _ (refused-as _ _ 4 (c .find-refused3 .ensures)) (search needs)
-    ∙ sym (find-parts digestOf _ (start known-at .args .size) _ _ _ _ _)
+    ∙ sym (find-parts (digestIn (start known-at .args .mode .now)) _ (start known-at .args .size) _ _ _ _ _)
 
 returns-4 : tie.Need-returns-4
 unfolding findOutcome rootOrder
@@ -68,7 +68,7 @@ returns-4 c =
     passes _ (rootOrder (length (a .nodes .now) under 32 * a .size) (a .size)) _
     (refused-fields (a .letter .now) k (read .take-apart .ensures) (a .first .now) (a .second .now) _ e (c .before .if3 .taken))
     (search needs)
-    ∙ sym (find-parts digestOf _ (a .size) _ _ _ _ _)
+    ∙ sym (find-parts (digestIn (a .mode .now)) _ (a .size) _ _ _ _ _)
 
 -- the fields, where none refuses
 module _ (c : tie.Else3) where
@@ -116,10 +116,10 @@ returns-5 c =
     let f = formed-fields s in
     passes _ (rootOrder (length (a .nodes .now) under 32 * a .size) (a .size)) _
     (passes _ _ _
-    (formed (letter s) k e f (a .nodes .now) (a .rec .now) (a .first .now) (a .second .now) (done .against .ensures))
+    (formed (letter s) k e f (digestIn (a .mode .now)) (a .nodes .now) (a .rec .now) (a .first .now) (a .second .now) (done .against .ensures))
     (fields-pass (letter s) k e f))
     (search needs)
-    ∙ sym (find-parts digestOf _ (a .size) _ _ _ _ _)
+    ∙ sym (find-parts (digestIn (a .mode .now)) _ (a .size) _ _ _ _ _)
 
 pub find-spec : {M : Type 1} → statement M
 find-spec =

@@ -19,14 +19,14 @@ use Rattle.letter_items.proofs.+put_items.{statement}
 use Rattle.letter_items.proofs.+put_items.Tie.{close}
 
 -- the height falls
-abbrev μ-put-items : Measures 2 put-items-kinds.ps ℕ
-μ-put-items κs a = a .1 .1 .1 .0
+abbrev μ-put-items : Measures 3 put-items-kinds.ps ℕ
+μ-put-items κs a = a .1 .1 .1 .1 .0
 
-abbrev put-items-at : ℕ → In 2 put-items-kinds.ps
-put-items-at t = and 2 put-items-kinds.ps (is 2 put-items-kinds.ps μ-put-items t) put-items.Pre
+abbrev put-items-at : ℕ → In 3 put-items-kinds.ps
+put-items-at t = and 3 put-items-kinds.ps (is 3 put-items-kinds.ps μ-put-items t) put-items.Pre
 
-abbrev put-items-below : ℕ → In 2 put-items-kinds.ps
-put-items-below t = and 2 put-items-kinds.ps (falls 2 put-items-kinds.ps _<_ μ-put-items t) put-items.Pre
+abbrev put-items-below : ℕ → In 3 put-items-kinds.ps
+put-items-below t = and 3 put-items-kinds.ps (falls 3 put-items-kinds.ps _<_ μ-put-items t) put-items.Pre
 
 -- above height 0
 above : (t : ℕ)
@@ -68,7 +68,7 @@ left t c =
     let turned = put .before .before in
     let p = turned .before .before in
     let a = p .before .before .before .before .args in
-    left-put (above t p) (turned .before .if2 .left) (turned .if3 .taken) (a .nodes .now) (a .d .now) refl (put .put-items2 .ensures)
+    left-put (above t p) (turned .before .if2 .left) (turned .if3 .taken) (a .mode .now) (a .nodes .now) (a .d .now) refl (put .put-items2 .ensures)
     (folded .fold-from .ensures) (written .write-digest .ensures)
 
 -- to the right within a peak, done
@@ -92,7 +92,7 @@ within t c =
     let read = whole .before .before in
     let p = read .before .before .before in
     let a = p .before .before .before .before .args in
-    within-put (above t p) (read .before .before .if2 .left) (read .before .if3 .left) (whole .if4 .taken) (a .nodes .now) (a .d .now) refl
+    within-put (above t p) (read .before .before .if2 .left) (read .before .if3 .left) (whole .if4 .taken) (a .mode .now) (a .nodes .now) (a .d .now) refl
     (put .put-items3 .ensures) (read .node-at .ensures) (written .write-digest2 .ensures)
 
 pub +put-items-spec : {M : Type 1} → statement M
@@ -114,7 +114,7 @@ pub +put-items-spec : {M : Type 1} → statement M
     put-items.Post
     -- one leaf
     (λ c. let a = c .before .before .before .args in
-    put-none (a .nodes .now) (a .h) (a .n) (a .i) (a .s) (a .at) (a .d .now) (c .if1 .taken) (c .before .before .before .pre .1))
+    put-none (a .mode .now) (a .nodes .now) (a .h) (a .n) (a .i) (a .s) (a .at) (a .d .now) (c .if1 .taken) (c .before .before .before .pre .1))
     (λ c. search needs)
     (λ c κs. search needs)
     -- all leaves at the height below
@@ -124,7 +124,7 @@ pub +put-items-spec : {M : Type 1} → statement M
     let put = c .before .before in
     let low = put .before .before in
     let a = low .before .before .before .before .before .args in
-    low-put (above t (low .before)) (low .if2 .taken) (a .nodes .now) (a .d .now) (put .put-items .ensures))
+    low-put (above t (low .before)) (low .if2 .taken) (a .mode .now) (a .nodes .now) (a .d .now) (put .put-items .ensures))
     -- the position behind the left side, and the leaves to the right
     (λ c. let f = half-bounds (above t (c .before)) in omega arith)
     (λ c. let f = half-bounds (above t (c .before)) in omega arith)
@@ -181,4 +181,4 @@ pub +put-items-spec : {M : Type 1} → statement M
     let read = more .before .before in
     let a = read .before .before .before .before .before .before .before .args in
     past-put (above t (read .before .before .before)) (read .before .before .if2 .left) (read .before .if3 .left) (more .if4 .left)
-    (a .nodes .now) (a .d .now) refl (read .node-at .ensures) (written .write-digest3 .ensures) (put .put-items4 .ensures)))
+    (a .mode .now) (a .nodes .now) (a .d .now) refl (read .node-at .ensures) (written .write-digest3 .ensures) (put .put-items4 .ensures)))

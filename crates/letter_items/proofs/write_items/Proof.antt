@@ -13,7 +13,7 @@ use Rattle.letter_items.proofs.write_items.Tie as tie
 returns : tie.Need-returns
 returns c =
     let a = c .before .before .before .args in
-    written-none (a .nodes .now) (a .d .now) (a .at) (a .n) (a .i)
+    written-none (a .mode .now) (a .nodes .now) (a .d .now) (a .at) (a .n) (a .i)
     (λ p q. elim (c .if1 .came) [ inl t ↦ omega arith | inr t ↦ omega (arith, ltb-true) ])
 
 -- the index is one of a log
@@ -24,7 +24,7 @@ returns-2 : tie.Need-returns-2
 returns-2 c =
     let a = c .before .before .before .before .before .before .args in
     let k = known (c .before) in
-    written-cut (a .nodes .now) (a .d .now) (a .at) (a .n) (a .i) (k .0) (k .1)
+    written-cut (a .mode .now) (a .nodes .now) (a .d .now) (a .at) (a .n) (a .i) (k .0) (k .1)
     (elim (c .if3 .came) [ inl t ↦ omega arith | inr t ↦ omega (arith, ltb-true) ])
 
 -- the items fit
@@ -36,14 +36,14 @@ put-items-requires : tie.Need-put-items-requires
 put-items-requires c κs =
     let a = c .before .before .before .before .before .before .before .before .before .args in
     let k = known (c .before .before .before .before) in
-    written-room (a .nodes .now) (a .d .now) (a .at) (a .n) (a .i) (k .0) (k .1) (c .height .result) (c .height .ensures) (fits c)
+    written-room (a .mode .now) (a .nodes .now) (a .d .now) (a .at) (a .n) (a .i) (k .0) (k .1) (c .height .result) (c .height .ensures) (fits c)
 
 returns-3 : tie.Need-returns-3
 returns-3 c =
     let h = c .before .before .before in
     let a = h .before .before .before .before .before .before .before .before .before .args in
     let k = known (h .before .before .before .before) in
-    written-all (a .nodes .now) (a .d .now) (a .at) (a .n) (a .i) (k .0) (k .1) (h .height .result) (h .height .ensures) (fits h)
+    written-all (a .mode .now) (a .nodes .now) (a .d .now) (a .at) (a .n) (a .i) (k .0) (k .1) (h .height .result) (h .height .ensures) (fits h)
     (c .before .before .put-items .ensures)
 
 pub write-items-spec : {M : Type 1} → statement M

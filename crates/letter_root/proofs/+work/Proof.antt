@@ -4,6 +4,7 @@ use native.Mathlib.Omega.{arith}
 use borrow.Author.Needs.{needs}
 use borrow.Fn.Kinds.{In}
 use borrow.Fn.PlainCycle.{Measures, is, falls, and}
+use Rattle.digest.specs.Digest.{digestIn}
 use Rattle.shape.specs.Letter.{wayIn}
 use Rattle.shape.proofs.Ways.{way-most}
 use Rattle.letter.proofs.Turns.{turn-none, turn-low, turn-left, turn-right, turn-past}
@@ -18,14 +19,14 @@ use Rattle.letter_root.proofs.+work.{statement}
 use Rattle.letter_root.proofs.+work.Tie.{close}
 
 -- the height falls
-abbrev μ-work : Measures 1 work-kinds.ps ℕ
-μ-work κs a = a .0
+abbrev μ-work : Measures 2 work-kinds.ps ℕ
+μ-work κs a = a .1 .0
 
-abbrev work-at : ℕ → In 1 work-kinds.ps
-work-at t = and 1 work-kinds.ps (is 1 work-kinds.ps μ-work t) work.Pre
+abbrev work-at : ℕ → In 2 work-kinds.ps
+work-at t = and 2 work-kinds.ps (is 2 work-kinds.ps μ-work t) work.Pre
 
-abbrev work-below : ℕ → In 1 work-kinds.ps
-work-below t = and 1 work-kinds.ps (falls 1 work-kinds.ps _<_ μ-work t) work.Pre
+abbrev work-below : ℕ → In 2 work-kinds.ps
+work-below t = and 2 work-kinds.ps (falls 2 work-kinds.ps _<_ μ-work t) work.Pre
 
 pub +work-spec : {M : Type 1} → statement M
 +work-spec =
@@ -37,7 +38,7 @@ pub +work-spec : {M : Type 1} → statement M
     -- no height
     (λ c.
     let a = c .before .before .args in
-    side-none (a .leaf .bytes) (a .items .now) (wayIn (a .h) (a .n) (a .i)) (a .from) (turn-none (a .h) (a .n) (a .i) (c .if1 .taken)))
+    side-none (digestIn (a .mode .now)) (a .leaf .bytes) (a .items .now) (wayIn (a .h) (a .n) (a .i)) (a .from) (turn-none (a .h) (a .n) (a .i) (c .if1 .taken)))
     (λ c. search needs)
     (λ c κs. search needs)
     -- all leaves at the height below
@@ -67,7 +68,7 @@ pub +work-spec : {M : Type 1} → statement M
     (λ c.
     let s = c .before .before .before .before .before .before in
     let a = s .before .before .before .args in
-    side-left (a .leaf .bytes) (a .items .now) (a .from)
+    side-left (digestIn (a .mode .now)) (a .leaf .bytes) (a .items .now) (a .from)
     (turn-left (a .h) (a .n) (a .i) (s .before .if1 .left) (omega arith) (s .power .result) (s .power .ensures)
     (c .before .before .before .before .before .if2 .left) (c .before .before .before .before .if3 .taken))
     (c .before .before .before .work2 .ensures) (c .before .item .ensures) (c .parent .ensures))
@@ -92,7 +93,7 @@ pub +work-spec : {M : Type 1} → statement M
     (λ c.
     let s = c .before .before .before .before .before .before .before in
     let a = s .before .before .before .args in
-    side-right (a .leaf .bytes) (a .items .now) (a .from)
+    side-right (digestIn (a .mode .now)) (a .leaf .bytes) (a .items .now) (a .from)
     (turn-right (a .h) (a .n) (a .i) (s .before .if1 .left) (omega arith) (s .power .result) (s .power .ensures)
     (c .before .before .before .before .before .before .if2 .left)
     (c .before .before .before .before .before .if3 .left) (c .before .before .before .before .if4 .taken))
@@ -109,7 +110,7 @@ pub +work-spec : {M : Type 1} → statement M
     (λ c.
     let s = c .before .before .before .before .before .before in
     let a = s .before .before .before .args in
-    side-past (a .leaf .bytes) (a .items .now) (a .from)
+    side-past (digestIn (a .mode .now)) (a .leaf .bytes) (a .items .now) (a .from)
     (turn-past (a .h) (a .n) (a .i) (s .before .if1 .left) (omega arith) (s .power .result) (s .power .ensures)
     (c .before .before .before .before .before .if2 .left) (c .before .before .before .before .if3 .left) (c .before .before .before .if4 .left))
     (c .before .work4 .ensures) (c .before .before .item3 .ensures) (c .parent3 .ensures)))

@@ -4,7 +4,7 @@ use mathlib.Core.Logic.{inl, inr}
 use native.Mathlib.Omega.{arith}
 use borrow.Author.Tests.{ltb-true, ltb-false}
 use Prim.Native.Nat.{ℕ, suc, _^_, _≤_, _<_}
-use Rattle.digest.specs.Digest.{digestOf}
+use Rattle.digest.specs.Digest.{digestIn}
 use Rattle.shape.specs.Seen.{brokenIn, broken}
 use Rattle.nodes.specs.Nodes.{nodeIn}
 use Rattle.letter_walk.proofs.Whole.{whole-room, broken-inside, broken-beyond}
@@ -15,7 +15,7 @@ use Rattle.letter_walk.proofs.broken_to.Tie as tie
 returns : tie.Need-returns
 returns c =
     let a = c .before .before .args in
-    sym (broken-beyond digestOf (nodeIn (a .nodes .now)) (a .n) (a .i)
+    sym (broken-beyond (digestIn (a .mode .now)) (nodeIn (a .nodes .now)) (a .n) (a .i)
     (λ p q. elim (c .if1 .came) [ inl t ↦ omega (arith, ltb-true) | inr t ↦ omega (arith, ltb-true) ]))
 
 -- within the limits
@@ -33,8 +33,8 @@ returns-2 c =
     let a = c .before .before .before .before .before .args in
     let w = within (c .before) in
     c .on-way .ensures
-    ∙ ap (λ (k : ℕ). brokenIn digestOf (nodeIn (a .nodes .now)) (suc k) (a .n) (a .i) 0) (c .before .height .ensures)
-    ∙ sym (broken-inside digestOf (nodeIn (a .nodes .now)) (a .n) (a .i) (w .0) (w .1))
+    ∙ ap (λ (k : ℕ). brokenIn (digestIn (a .mode .now)) (nodeIn (a .nodes .now)) (suc k) (a .n) (a .i) 0) (c .before .height .ensures)
+    ∙ sym (broken-inside (digestIn (a .mode .now)) (nodeIn (a .nodes .now)) (a .n) (a .i) (w .0) (w .1))
 
 pub broken-to-spec : {M : Type 1} → statement M
 broken-to-spec =

@@ -4,7 +4,7 @@ use mathlib.Core.Logic.{inl, inr}
 use native.Mathlib.Omega.{arith}
 use borrow.Author.Tests.{ltb-true, ltb-false}
 use Prim.Native.Nat.{_^_, _≤_, _<_}
-use Rattle.digest.specs.Digest.{digestOf}
+use Rattle.digest.specs.Digest.{digestIn}
 use Rattle.nodes.specs.Nodes.{nodeIn}
 use Rattle.letter_walk.proofs.Whole.{whole-room, whole, walk-inside, walk-beyond}
 use borrow.Author.Needs.{needs}
@@ -15,7 +15,7 @@ returns : tie.Need-returns
 returns c =
     let a = c .before .before .before .before .args in
     c .nothing .ensures
-    ∙ sym (walk-beyond digestOf (nodeIn (a .nodes .now)) (a .n) (a .i) _ _
+    ∙ sym (walk-beyond (digestIn (a .mode .now)) (nodeIn (a .nodes .now)) (a .n) (a .i) _ _
     (λ p q. elim (c .before .if1 .came) [ inl t ↦ omega (arith, ltb-true) | inr t ↦ omega (arith, ltb-true) ]))
 
 -- within the limits
@@ -31,8 +31,8 @@ returns-2 : tie.Need-returns-2
 returns-2 c =
     let a = c .before .before .before .before .before .before .args in
     let w = within (c .before) in
-    whole _ (a .n) (a .i) _ _ (c .before .height .ensures) (c .walk .ensures)
-    ∙ sym (walk-inside digestOf (nodeIn (a .nodes .now)) (a .n) (a .i) _ _ (w .0) (w .1))
+    whole _ _ (a .n) (a .i) _ _ (c .before .height .ensures) (c .walk .ensures)
+    ∙ sym (walk-inside (digestIn (a .mode .now)) (nodeIn (a .nodes .now)) (a .n) (a .i) _ _ (w .0) (w .1))
 
 pub walk-to-spec : {M : Type 1} → statement M
 walk-to-spec =

@@ -7,7 +7,7 @@ use Rattle.order.proofs.Laws.{refuses, passes}
 use Rattle.shape.proofs.Sizes.{size-le}
 use Rattle.shape.specs.Sizes.{leaves}
 use Rattle.shape.proofs.Counting.{Counts, counts-leaves, counts-none}
-use Rattle.digest.specs.Digest.{digestOf}
+use Rattle.digest.specs.Digest.{digestIn}
 use Rattle.nodes.specs.Nodes.{nodeIn}
 use Rattle.letter.specs.Items.{itemCount, foreign}
 use Rattle.letter.proofs.Foreign.{foreign-by}
@@ -71,10 +71,10 @@ returns-5 c =
 -- whether the record's digest is the leaf at its place
 compared : (c : tie.After-foreign)
     → let a = c .before .before .before .before .before .before .before .before .before .before .before .before .before .before .args in
-    c .foreign .result ≡ foreign digestOf (nodeIn (a .nodes .now)) (a .index) (a .rec .now)
+    c .foreign .result ≡ foreign (digestIn (a .mode .now)) (nodeIn (a .nodes .now)) (a .index) (a .rec .now)
 compared c =
     let a = c .before .before .before .before .before .before .before .before .before .before .before .before .before .before .args in
-    foreign-by digestOf (nodeIn (a .nodes .now)) (a .index) (a .rec .now) (c .before .digest-of .ensures) (c .foreign .ensures)
+    foreign-by (digestIn (a .mode .now)) (nodeIn (a .nodes .now)) (a .index) (a .rec .now) (c .before .digest-of .ensures) (c .foreign .ensures)
 
 returns-6 : tie.Need-returns-6
 unfolding writeOutcome writeOver writeOrder
@@ -96,7 +96,7 @@ returns-7 c =
     let a = told .before .before .before .before .before .before .before .args in
     let k = known told in
     let e = counted items in
-    let l = our-length (a .index) (a .rec .now) (a .nodes .now) k (below .if1 .left) in
+    let l = our-length (a .mode .now) (a .index) (a .rec .now) (a .nodes .now) k (below .if1 .left) in
     refuses 6 _ _ _ (refused-is (lent told) (c .write-refused7 .ensures)) (search needs)
 
 returns-8 : tie.Need-returns-8
@@ -113,13 +113,13 @@ returns-8 c =
     let told = below .before in
     let a = told .before .before .before .before .before .before .before .args in
     let k = known told in
-    let z : foreign digestOf (nodeIn (a .nodes .now)) (a .index) (a .rec .now) ≡ 0 =
+    let z : foreign (digestIn (a .mode .now)) (nodeIn (a .nodes .now)) (a .index) (a .rec .now) ≡ 0 =
     sym (compared (fits .before .before)) ∙ fits .before .if5 .left in
     passes _ _ _
-    (letter-done (a .index) (a .rec .now) (a .nodes .now) k (below .if1 .left) (a .out .now) _
+    (letter-done (a .mode .now) (a .index) (a .rec .now) (a .nodes .now) k (below .if1 .left) (a .out .now) _
     (omega (arith, items .item-count .ensures)) (omega arith)
     (first .write8 .ensures) (second .write82 .ensures) (third .write4 .ensures) (fourth .write-run .ensures) (fifth .write-items .ensures))
-    (none-applies (a .index) (a .rec .now) (a .nodes .now) k (below .if1 .left) (a .out .now) (omega arith) (omega arith)
+    (none-applies (a .mode .now) (a .index) (a .rec .now) (a .nodes .now) k (below .if1 .left) (a .out .now) (omega arith) (omega arith)
     (omega (arith, items .item-count .ensures, fits .before .before .before .before .if4 .left)) z (omega (arith, items .item-count .ensures)))
 
 pub write-letter-spec : {M : Type 1} → statement M

@@ -72,9 +72,9 @@ same-length c =
     let k = known (c .before .before .before .before .before .before .before .before .before .before .before) in
     let e = c .before .before .before .before .before .before .before .before .merges .ensures in
     ap length
-    (leaf-bytes (a .rec .now) (a .nodes .now) k e (omega arith) (c .before .before .before .before .before .before .if4 .taken) (c .before .before .write-digest .ensures)
+    (leaf-bytes (a .mode .now) (a .rec .now) (a .nodes .now) k e (omega arith) (c .before .before .before .before .before .before .if4 .taken) (c .before .before .write-digest .ensures)
     (c .before .before .before .before .before .digest-of .ensures))
-    ∙ new-fits (a .rec .now) (a .nodes .now) k e (omega arith)
+    ∙ new-fits (a .mode .now) (a .rec .now) (a .nodes .now) k e (omega arith)
 
 returns-5 : tie.Need-returns-5
 unfolding appendOutcome appendOver appendOrder
@@ -85,9 +85,9 @@ returns-5 c =
     let z = c .before .before .before .before .before .before .if4 .taken in
     let g : sizeOf (suc (leaves (a .size))) ≡ a .size + (1 + m .result) = grown-size k (m .ensures) in
     let h : 1 ≡ 1 + m .result = omega (arith, z) in
-    let w = leaf-bytes (a .rec .now) (a .nodes .now) k (m .ensures) (omega arith) z (c .before .before .write-digest .ensures)
+    let w = leaf-bytes (a .mode .now) (a .rec .now) (a .nodes .now) k (m .ensures) (omega arith) z (c .before .before .write-digest .ensures)
     (c .before .before .before .before .before .digest-of .ensures) in
-    passes _ _ _ (append-done (a .rec .now) (a .nodes .now) k (m .ensures) (omega arith) refl refl h w) (search needs)
+    passes _ _ _ (append-done (a .mode .now) (a .rec .now) (a .nodes .now) k (m .ensures) (omega arith) refl refl h w) (search needs)
 
 -- and with merges
 lefts-requires : tie.Need-lefts-requires
@@ -111,9 +111,9 @@ same-length-2 c =
     let a = c .before .before .before .before .before .before .before .before .before .before .before .before .before .before .before .before .before .args in
     let k = known (c .before .before .before .before .before .before .before .before .before .before .before) in
     let e = c .before .before .before .before .before .before .before .before .merges .ensures in
-    ap length (new-bytes (a .rec .now) (a .nodes .now) k e (omega arith) (c .before .before .before .before .lefts .ensures)
+    ap length (new-bytes (a .mode .now) (a .rec .now) (a .nodes .now) k e (omega arith) (c .before .before .before .before .lefts .ensures)
     (c .before .before .write-new .ensures) refl)
-    ∙ new-fits (a .rec .now) (a .nodes .now) k e (omega arith)
+    ∙ new-fits (a .mode .now) (a .rec .now) (a .nodes .now) k e (omega arith)
 
 returns-6 : tie.Need-returns-6
 unfolding appendOutcome appendOver appendOrder
@@ -122,9 +122,9 @@ returns-6 c =
     let k = known (c .before .before .before .before .before .before .before .before .before .before .before) in
     let m = c .before .before .before .before .before .before .before .before .merges in
     let g : sizeOf (suc (leaves (a .size))) ≡ a .size + (1 + m .result) = grown-size k (m .ensures) in
-    let w = new-bytes (a .rec .now) (a .nodes .now) k (m .ensures) (omega arith) (c .before .before .before .before .lefts .ensures)
+    let w = new-bytes (a .mode .now) (a .rec .now) (a .nodes .now) k (m .ensures) (omega arith) (c .before .before .before .before .lefts .ensures)
     (c .before .before .write-new .ensures) refl in
-    passes _ _ _ (append-done (a .rec .now) (a .nodes .now) k (m .ensures) (omega arith) refl refl refl w) (search needs)
+    passes _ _ _ (append-done (a .mode .now) (a .rec .now) (a .nodes .now) k (m .ensures) (omega arith) refl refl refl w) (search needs)
 
 pub append-spec : {M : Type 1} → statement M
 append-spec =

@@ -41,7 +41,7 @@ unfolding rootOutcome rootOver rootOrder
 returns-4 c =
     let k = known (c .before .before .before) in
     let a = c .before .before .before .before .before .before .before .before .args in
-    passes _ _ _ (root-done (a .nodes .now) k (omega arith) refl (c .fold-from .ensures)) (search needs)
+    passes _ _ _ (root-done (a .mode .now) (a .nodes .now) k (omega arith) refl (c .fold-from .ensures)) (search needs)
 
 pub root-spec : {M : Type 1} → statement M
 root-spec =

@@ -5,6 +5,7 @@ use native.Mathlib.Omega.{arith}
 use borrow.Author.Needs.{needs}
 use borrow.Fn.Kinds.{In}
 use borrow.Fn.PlainCycle.{Measures, is, falls, and}
+use Rattle.digest.specs.Digest.{digestIn}
 use Rattle.nodes.specs.Nodes.{nodeIn}
 use Rattle.nodes.proofs.Folds.{fold-height, half-bounds, room-skip, room-rest, fold-skip, fold-one, fold-more}
 use Rattle.nodes.proofs.folded.Reads as folded
@@ -17,14 +18,14 @@ use Rattle.nodes.proofs.+folded.{statement}
 use Rattle.nodes.proofs.+folded.Tie.{close}
 
 -- the height falls
-abbrev μ-folded : Measures 1 folded-kinds.ps ℕ
-μ-folded κs a = a .1 .0
+abbrev μ-folded : Measures 2 folded-kinds.ps ℕ
+μ-folded κs a = a .1 .1 .0
 
-abbrev folded-at : ℕ → In 1 folded-kinds.ps
-folded-at t = and 1 folded-kinds.ps (is 1 folded-kinds.ps μ-folded t) folded.Pre
+abbrev folded-at : ℕ → In 2 folded-kinds.ps
+folded-at t = and 2 folded-kinds.ps (is 2 folded-kinds.ps μ-folded t) folded.Pre
 
-abbrev folded-below : ℕ → In 1 folded-kinds.ps
-folded-below t = and 1 folded-kinds.ps (falls 1 folded-kinds.ps _<_ μ-folded t) folded.Pre
+abbrev folded-below : ℕ → In 2 folded-kinds.ps
+folded-below t = and 2 folded-kinds.ps (falls 2 folded-kinds.ps _<_ μ-folded t) folded.Pre
 
 pub +folded-spec : {M : Type 1} → statement M
 +folded-spec =
@@ -48,7 +49,7 @@ pub +folded-spec : {M : Type 1} → statement M
     let a = c .before .before .before .before .args in
     let room = c .before .before .before .before .pre .1 in
     c .folded .ensures
-    ∙ fold-skip (a .k) (a .n) (a .s) room (c .before .before .power .result) (c .before .before .power .ensures) (nodeIn (a .nodes .now))
+    ∙ fold-skip (a .k) (a .n) (a .s) room (c .before .before .power .result) (c .before .before .power .ensures) (digestIn (a .mode .now)) (nodeIn (a .nodes .now))
     (c .before .if1 .taken))
     -- the tallest peak
     (λ c. let a = c .before .before .before .args in
@@ -63,7 +64,7 @@ pub +folded-spec : {M : Type 1} → statement M
     let a = c .before .before .before .before .before .args in
     let half = c .before .before .before .power in
     c .before .node-at .ensures
-    ∙ fold-one (a .k) (a .n) (a .s) (c .before .before .before .before .before .pre .1) (half .result) (half .ensures) (nodeIn (a .nodes .now))
+    ∙ fold-one (a .k) (a .n) (a .s) (c .before .before .before .before .before .pre .1) (half .result) (half .ensures) (digestIn (a .mode .now)) (nodeIn (a .nodes .now))
     (c .before .before .if1 .left) (c .if2 .taken))
     -- the rest
     (λ c. let a = c .before .before .before .before .before .args in
@@ -81,6 +82,6 @@ pub +folded-spec : {M : Type 1} → statement M
     (λ c.
     let a = c .before .before .before .before .before .before .before .args in
     let half = c .before .before .before .before .before .power in
-    fold-more (a .k) (a .n) (a .s) (c .before .before .before .before .before .before .before .pre .1) (half .result) (half .ensures) (nodeIn (a .nodes .now))
+    fold-more (a .k) (a .n) (a .s) (c .before .before .before .before .before .before .before .pre .1) (half .result) (half .ensures) (digestIn (a .mode .now)) (nodeIn (a .nodes .now))
     (c .before .before .before .before .if1 .left) (c .before .before .if2 .left) (c .digest-of-pair .ensures)
     (c .before .before .before .node-at .ensures) (c .before .folded2 .ensures)))

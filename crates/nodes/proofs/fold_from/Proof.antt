@@ -5,7 +5,7 @@ use native.Mathlib.Numerals.{add-one}
 use native.Mathlib.Omega.{arith}
 use borrow.Author.Tests.{ltb-true, ltb-false}
 use Prim.Native.Nat.{ℕ, _+_, _^_, _≤_, _<_}
-use Rattle.digest.specs.Digest.{digestOf}
+use Rattle.digest.specs.Digest.{digestIn}
 use Rattle.shape.specs.Positions.{peaksIn, fold}
 use Rattle.shape.proofs.Heights.{height-holds}
 use Rattle.nodes.specs.Nodes.{nodeIn}
@@ -18,7 +18,7 @@ use Rattle.nodes.proofs.fold_from.Tie as tie
 returns : tie.Need-returns
 returns c =
     let a = c .before .before .args in
-    sym (from-beyond digestOf (a .nodes .now) (a .n) (a .s)
+    sym (from-beyond (digestIn (a .mode .now)) (a .nodes .now) (a .n) (a .s)
     (λ some few near. elim (c .if1 .came) [
       | inl t ↦ omega arith
       | inr (inl t) ↦ omega (arith, ltb-true)
@@ -48,8 +48,8 @@ returns-2 c =
     let h = c .before .height .result in
     let w = within (c .before) in
     c .folded .ensures
-    ∙ ap (λ (k : ℕ). fold digestOf (nodeIn (a .nodes .now)) (peaksIn k (a .n) (a .s))) (add-one h)
-    ∙ sym (from-any digestOf (a .nodes .now) (a .n) (a .s) h (rw (c .before .height .ensures) (height-holds (a .n))) (w .0) (w .1) (w .2))
+    ∙ ap (λ (k : ℕ). fold (digestIn (a .mode .now)) (nodeIn (a .nodes .now)) (peaksIn k (a .n) (a .s))) (add-one h)
+    ∙ sym (from-any (digestIn (a .mode .now)) (a .nodes .now) (a .n) (a .s) h (rw (c .before .height .ensures) (height-holds (a .n))) (w .0) (w .1) (w .2))
 
 pub fold-from-spec : {M : Type 1} → statement M
 fold-from-spec =

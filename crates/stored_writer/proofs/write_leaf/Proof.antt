@@ -1,7 +1,7 @@
 -- `stored::write_leaf` meets its contract: a refusal leaves the buffer, and the four fields, one after the other, fill its first bytes.
 use mathlib.Core.Path.{refl}
 use Rattle.order.proofs.Laws.{refuses, passes}
-use Rattle.digest.specs.Digest.{digestOf, digest-length}
+use Rattle.digest.specs.Digest.{digestIn, digest-length}
 use Rattle.stored_writer.specs.Outcome.{leafOutcome}
 use Rattle.stored_writer.proofs.Fills.{leaf-filled}
 use borrow.Author.Needs.{needs}
@@ -26,7 +26,7 @@ returns-3 c =
     let worked = first .before .before .before in
     let a = worked .before .before .before .before .before .args in
     passes _ _ _
-    (leaf-filled digestOf (a .rec .now) (a .out .now) (digest-length (a .rec .now)) (search needs) (worked .digest-of .ensures)
+    (leaf-filled (digestIn (a .mode .now)) (a .rec .now) (a .out .now) (digest-length (a .mode .now) (a .rec .now)) (search needs) (worked .digest-of .ensures)
     (first .write-byte .ensures) (second .write-digest .ensures) (third .write4 .ensures) (fourth .write-run .ensures))
     (search needs)
 

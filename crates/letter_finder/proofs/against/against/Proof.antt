@@ -1,7 +1,8 @@
 -- Each refusal is the first of its order that applies, by what the walk finds; then the answer is settled.
 use mathlib.Core.Path.{_≡_, sym, ap₂, _∙_}
+use mathlib.Core.List.{List}
 use Prim.Native.Nat.{ℕ}
-use Rattle.digest.specs.Digest.{digestOf}
+use Rattle.digest.specs.Digest.{digestIn}
 use Rattle.order.proofs.Laws.{refuses, passes}
 use Rattle.wire.specs.Slices.{differ, rowsFrom}
 use Rattle.wire.proofs.Differences.{same-of-differ}
@@ -24,6 +25,9 @@ module _ (c : tie.After-digests-differ) where
   abbrev start : tie.Start
   start = c .before .before .before .before .before .before .before .before .before
 
+  abbrev digest : List ℕ → List ℕ
+  digest = digestIn (start .args .mode .now)
+
   abbrev n : ℕ
   n = start .args .n
 
@@ -31,13 +35,13 @@ module _ (c : tie.After-digests-differ) where
   i = start .args .i
 
   -- what it found
-  known : Whole (start .args .nodes .now) n i (start .args .theirs .now) (start .args .items .now) (c .before .walk-to .result)
-  known = whole _ n i _ _ (start .pre .0) (start .pre .1) (c .before .before .digest-of .ensures) (c .before .walk-to .ensures)
+  known : Whole (start .args .mode .now) (start .args .nodes .now) n i (start .args .theirs .now) (start .args .items .now) (c .before .walk-to .result)
+  known = whole _ _ n i _ _ (start .pre .0) (start .pre .1) (c .before .before .digest-of .ensures) (c .before .walk-to .ensures)
 
   -- whether the two roots differ
   roots : c .digests-differ .result
-      ≡ differ (ownRoot digestOf (nodeIn (start .args .nodes .now)) n)
-      (root digestOf (treeOf digestOf n i (start .args .theirs .now) (rowsFrom 32 0 (itemCount n i) (start .args .items .now))))
+      ≡ differ (ownRoot digest (nodeIn (start .args .nodes .now)) n)
+      (root digest (treeOf digest n i (start .args .theirs .now) (rowsFrom 32 0 (itemCount n i) (start .args .items .now))))
   roots = c .digests-differ .ensures ∙ ap₂ differ (known .log) (known .letter)
 
 returns : tie.Need-returns
@@ -56,14 +60,14 @@ own-digest-requires : tie.Need-own-digest-requires
 own-digest-requires c κs =
     let walked = c .before .before .before in
     let s = start walked in
-    same-digest (s .args .rec .now) (s .args .theirs .now) (c .differ .ensures) (walked .before .before .digest-of .ensures)
+    same-digest (s .args .mode .now) (s .args .rec .now) (s .args .theirs .now) (c .differ .ensures) (walked .before .before .digest-of .ensures)
 
 -- whether the digest of the log's own record is the leaf at its place
 placed : (c : tie.After-foreign) → let a = start (c .before .before .before .before .before) .args in
-    c .foreign .result ≡ foreign digestOf (nodeIn (a .nodes .now)) (a .i) (a .rec .now)
+    c .foreign .result ≡ foreign (digestIn (a .mode .now)) (nodeIn (a .nodes .now)) (a .i) (a .rec .now)
 placed c =
     let a = start (c .before .before .before .before .before) .args in
-    foreign-by digestOf (nodeIn (a .nodes .now)) (a .i) (a .rec .now) (c .before .own-digest .ensures) (c .foreign .ensures)
+    foreign-by (digestIn (a .mode .now)) (nodeIn (a .nodes .now)) (a .i) (a .rec .now) (c .before .own-digest .ensures) (c .foreign .ensures)
 
 returns-3 : tie.Need-returns-3
 unfolding againstOutcome ownOrder

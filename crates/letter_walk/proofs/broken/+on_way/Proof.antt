@@ -4,6 +4,7 @@ use native.Mathlib.Omega.{arith}
 use borrow.Author.Needs.{needs}
 use borrow.Fn.Kinds.{In}
 use borrow.Fn.PlainCycle.{Measures, is, falls, and}
+use Rattle.digest.specs.Digest.{digestIn}
 use Rattle.letter_walk.proofs.Turning.{Above, half-bounds, low-room, left-room, right-room, top-room}
 use Rattle.letter_walk.proofs.broken.Breaking.{broke-none, broke-low, broke-left, broke-right}
 use Rattle.letter_walk.proofs.broken.on_way.Reads as on-way
@@ -15,14 +16,14 @@ use Rattle.letter_walk.proofs.broken.+on_way.{statement}
 use Rattle.letter_walk.proofs.broken.+on_way.Tie.{close}
 
 -- the height falls
-abbrev μ-on-way : Measures 1 on-way-kinds.ps ℕ
-μ-on-way κs a = a .1 .0
+abbrev μ-on-way : Measures 2 on-way-kinds.ps ℕ
+μ-on-way κs a = a .1 .1 .0
 
-abbrev on-way-at : ℕ → In 1 on-way-kinds.ps
-on-way-at t = and 1 on-way-kinds.ps (is 1 on-way-kinds.ps μ-on-way t) on-way.Pre
+abbrev on-way-at : ℕ → In 2 on-way-kinds.ps
+on-way-at t = and 2 on-way-kinds.ps (is 2 on-way-kinds.ps μ-on-way t) on-way.Pre
 
-abbrev on-way-below : ℕ → In 1 on-way-kinds.ps
-on-way-below t = and 1 on-way-kinds.ps (falls 1 on-way-kinds.ps _<_ μ-on-way t) on-way.Pre
+abbrev on-way-below : ℕ → In 2 on-way-kinds.ps
+on-way-below t = and 2 on-way-kinds.ps (falls 2 on-way-kinds.ps _<_ μ-on-way t) on-way.Pre
 
 -- above height 0
 above : (t : ℕ) (c : on-way-lts.After-power
@@ -41,7 +42,7 @@ pub +on-way-spec : {M : Type 1} → statement M
     (λ c.
     let start = c .before .before in
     let a = start .args in
-    broke-none (a .nodes .now) (a .n) (a .i) (a .s) (a .h) (c .if1 .taken) (start .pre .1))
+    broke-none (digestIn (a .mode .now)) (a .nodes .now) (a .n) (a .i) (a .s) (a .h) (c .if1 .taken) (start .pre .1))
     (λ c. search needs)
     (λ c κs. search needs)
     -- all leaves at the height below
@@ -50,7 +51,7 @@ pub +on-way-spec : {M : Type 1} → statement M
     let p = c .before .before in
     let f = above t p in
     let a = p .before .before .before .args in
-    broke-low (a .nodes .now) (a .n) (a .i) (a .s) _ 0 f (c .before .if2 .taken) (c .on-way .ensures))
+    broke-low (digestIn (a .mode .now)) (a .nodes .now) (a .n) (a .i) (a .s) _ 0 f (c .before .if2 .taken) (c .on-way .ensures))
     -- where the right side begins, and the leaves in it
     (λ c. let f = half-bounds (above t (c .before)) in omega arith)
     (λ c. let f = half-bounds (above t (c .before)) in omega arith)
@@ -64,7 +65,7 @@ pub +on-way-spec : {M : Type 1} → statement M
     let p = test .before .before in
     let f = above t p in
     let a = p .before .before .before .args in
-    broke-left (a .nodes .now) (a .n) (a .i) (a .s) _ _ f (f .fits)
+    broke-left (digestIn (a .mode .now)) (a .nodes .now) (a .n) (a .i) (a .s) _ _ f (f .fits)
     (test .before .if2 .left) (test .if3 .taken) (c .or-top .ensures) (c .before .on-way2 .ensures))
     -- to the right
     (λ c κs.
@@ -78,5 +79,5 @@ pub +on-way-spec : {M : Type 1} → statement M
     let p = test .before .before in
     let f = above t p in
     let a = p .before .before .before .args in
-    broke-right (a .nodes .now) (a .n) (a .i) (a .s) _ _ f (f .fits)
+    broke-right (digestIn (a .mode .now)) (a .nodes .now) (a .n) (a .i) (a .s) _ _ f (f .fits)
     (test .before .if2 .left) (test .if3 .left) (c .or-top2 .ensures) (c .before .on-way3 .ensures)))

@@ -5,6 +5,7 @@ use native.Mathlib.Omega.{arith}
 use borrow.Author.Needs.{needs}
 use borrow.Fn.Kinds.{In}
 use borrow.Fn.PlainCycle.{Measures, is, falls, and}
+use Rattle.digest.specs.Digest.{digestIn}
 use Rattle.shape.proofs.Ways.{way-most}
 use Rattle.letter_walk.proofs.Turning.{Above, half-bounds, low-room, left-room, right-room, fork-room}
 use Rattle.letter_walk.proofs.Turning.{turned-none, turned-low, turned-left, turned-within, turned-past}
@@ -20,14 +21,14 @@ use Rattle.letter_walk.proofs.walk.+walk.{statement}
 use Rattle.letter_walk.proofs.walk.+walk.Tie.{close}
 
 -- the height falls
-abbrev μ-walk : Measures 2 walk-kinds.ps ℕ
-μ-walk κs a = a .1 .1 .0
+abbrev μ-walk : Measures 3 walk-kinds.ps ℕ
+μ-walk κs a = a .1 .1 .1 .0
 
-abbrev walk-at : ℕ → In 2 walk-kinds.ps
-walk-at t = and 2 walk-kinds.ps (is 2 walk-kinds.ps μ-walk t) walk.Pre
+abbrev walk-at : ℕ → In 3 walk-kinds.ps
+walk-at t = and 3 walk-kinds.ps (is 3 walk-kinds.ps μ-walk t) walk.Pre
 
-abbrev walk-below : ℕ → In 2 walk-kinds.ps
-walk-below t = and 2 walk-kinds.ps (falls 2 walk-kinds.ps _<_ μ-walk t) walk.Pre
+abbrev walk-below : ℕ → In 3 walk-kinds.ps
+walk-below t = and 3 walk-kinds.ps (falls 3 walk-kinds.ps _<_ μ-walk t) walk.Pre
 
 -- above height 0
 above : (t : ℕ) (c : walk-lts.After-power (
@@ -72,7 +73,7 @@ pub +walk-spec : {M : Type 1} → statement M
     (λ c.
     let start = c .before .before .before .before .before in
     let a = start .args in
-    turned-none (a .nodes .now) (a .items .now) (a .leaf .bytes) (a .n) (a .i) (a .s) (a .from) _ (a .h)
+    turned-none (digestIn (a .mode .now)) (a .nodes .now) (a .items .now) (a .leaf .bytes) (a .n) (a .i) (a .s) (a .from) _ (a .h)
     (c .before .before .if1 .taken) (start .pre .1) refl (c .before .node-at .ensures) refl (c .agreement .ensures))
     (λ c. search needs)
     (λ c κs. search needs)
@@ -82,7 +83,7 @@ pub +walk-spec : {M : Type 1} → statement M
     let p = c .before .before in
     let f = above t p in
     let a = p .before .before .before .before .args in
-    turned-low (a .nodes .now) (a .items .now) (a .leaf .bytes) (a .n) (a .i) (a .s) (a .from) _ f (c .before .if2 .taken) (c .walk .ensures))
+    turned-low (digestIn (a .mode .now)) (a .nodes .now) (a .items .now) (a .leaf .bytes) (a .n) (a .i) (a .s) (a .from) _ f (c .before .if2 .taken) (c .walk .ensures))
     -- where the right side begins, and the leaves in it
     (λ c. let f = half-bounds (above t (c .before)) in omega arith)
     (λ c. let f = half-bounds (above t (c .before)) in omega arith)
@@ -108,7 +109,7 @@ pub +walk-spec : {M : Type 1} → statement M
     let p = walked .before .before .before in
     let f = above t p in
     let a = p .before .before .before .before .args in
-    turned-left (a .nodes .now) (a .items .now) (a .leaf .bytes) (a .n) (a .i) (a .s) (a .from) _ _ _ _ f (f .fits)
+    turned-left (digestIn (a .mode .now)) (a .nodes .now) (a .items .now) (a .leaf .bytes) (a .n) (a .i) (a .s) (a .from) _ _ _ _ f (f .fits)
     (walked .before .before .if2 .left) (walked .before .if3 .taken) (walked .walk2 .ensures)
     refl (c .before .before .before .fold-from .ensures) refl (c .before .node-at2 .ensures) (c .fork .ensures))
     -- the left child or peak
@@ -139,7 +140,7 @@ pub +walk-spec : {M : Type 1} → statement M
     let p = read .before .before .before in
     let f = above t p in
     let a = p .before .before .before .before .args in
-    turned-within (a .nodes .now) (a .items .now) (a .leaf .bytes) (a .n) (a .i) (a .s) (a .from) _ _ _ _ f (f .fits)
+    turned-within (digestIn (a .mode .now)) (a .nodes .now) (a .items .now) (a .leaf .bytes) (a .n) (a .i) (a .s) (a .from) _ _ _ _ f (f .fits)
     (read .before .before .if2 .left) (read .before .if3 .left) (walked .before .if4 .taken) (walked .walk3 .ensures)
     (read .node-at3 .ensures) refl (c .before .before .before .node-at4 .ensures) refl (c .fork2 .ensures))
     -- a right turn past a peak
@@ -164,6 +165,6 @@ pub +walk-spec : {M : Type 1} → statement M
     let p = read .before .before .before in
     let f = above t p in
     let a = p .before .before .before .before .args in
-    turned-past (a .nodes .now) (a .items .now) (a .leaf .bytes) (a .n) (a .i) (a .s) (a .from) _ _ _ _ f (f .fits)
+    turned-past (digestIn (a .mode .now)) (a .nodes .now) (a .items .now) (a .leaf .bytes) (a .n) (a .i) (a .s) (a .from) _ _ _ _ f (f .fits)
     (read .before .before .if2 .left) (read .before .if3 .left) (test .if4 .left) (walked .walk4 .ensures)
     (read .node-at3 .ensures) refl (walked .before .node-at5 .ensures) refl (c .fork3 .ensures)))

@@ -1,7 +1,7 @@
 -- Each part of a fork: the first difference, the letter's digest, and what stands on top.
 use mathlib.Core.Path.{refl, ap, sym, _∙_}
 use Prim.Native.Nat.{ℕ}
-use Rattle.digest.specs.Digest.{digestOf}
+use Rattle.digest.specs.Digest.{digestIn}
 use Rattle.wire.proofs.Differences.{same-of-differ}
 use Rattle.inputs.specs.Inputs.{bytesOf, above, told}
 use borrow.Author.Needs.{needs}
@@ -16,7 +16,7 @@ crown-requires c κs =
       record { some = p .some; few = p .few; past = p .past; near = p .near; used = search needs },
       λ z.
           c .digest-of-pair .ensures
-          ∙ ap digestOf (sym (same-of-differ (bytesOf (a .ours)) (bytesOf (a .theirs)) (sym (c .before .before .inputs-differ .ensures) ∙ z))),
+          ∙ ap (digestIn (a .mode .now)) (sym (same-of-differ (bytesOf (a .ours)) (bytesOf (a .theirs)) (sym (c .before .before .inputs-differ .ensures) ∙ z))),
     )
 
 returns : tie.Need-returns
