@@ -4,7 +4,7 @@ use mathlib.Core.List.{List}
 use Prim.Native.Nat.{ℕ}
 use lib.ListN.{take}
 use borrow.Author.Needs.{needs}
-use Rattle.digest.specs.Digest.{digestOf}
+use Rattle.digest.specs.Digest.{digestIn, digestOf}
 use Rattle.letter_checker.specs.Outcome.{judged}
 use Rattle.letter_checker.proofs.Panel.{front-judged}
 use Rattle.panel.proofs.verdict.Statement.{statement}
@@ -16,7 +16,10 @@ same front whole e = ap (judged digestOf) e ∙ front-judged digestOf whole
 returns : tie.Need-returns
 returns c =
     let d = c .decimal .ensures in
-    let j = c .before .before .judge .ensures in (
+    let judged-at = c .before .before in
+    let plain = judged-at .before .before in
+    let input = plain .before .before .args .input .now in
+    let j = judged-at .judge .ensures ∙ ap (λ (mode : List ℕ). judged (digestIn mode) input) (plain .plain .ensures) in (
       d .0,
       (
         (λ whole e. let k = j ∙ same _ whole e in rw (← k) (d .1 .0)),
@@ -28,6 +31,7 @@ pub verdict-spec : {M : Type 1} → statement M
 verdict-spec =
     tie.close
     (tie.spec
+    (λ c κs. search needs)
     (λ c κs. search needs)
     (λ c. search needs)
     (λ c κs. search needs)

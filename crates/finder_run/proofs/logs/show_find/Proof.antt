@@ -20,6 +20,7 @@ show-find-spec =
     (λ c κs. search needs)
     (λ c κs. search needs)
     (λ c κs. search needs)
+    (λ c κs. search needs)
     (λ c. search needs)
     slice-aggregate-find
     (λ c. search needs)

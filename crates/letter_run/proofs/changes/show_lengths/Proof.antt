@@ -5,10 +5,10 @@ use Rattle.letter_run.proofs.changes.show_lengths.Statement.{statement}
 use Rattle.letter_run.proofs.changes.show_lengths.Tie as tie
 
 abbrev Inv-loop : tie.InvT-loop
-Inv-loop label size root letter from to counts₀ n₀ counts n = from ≤ n
+Inv-loop label size root letter from to mode counts₀ n₀ counts n = from ≤ n
 
 abbrev μ-loop : tie.MeasureT-loop
-μ-loop label size root letter from to counts₀ n₀ counts n = to - n
+μ-loop label size root letter from to mode counts₀ n₀ counts n = to - n
 
 pub show-lengths-spec : {M : Type 1} → statement M
 show-lengths-spec =
@@ -16,6 +16,7 @@ show-lengths-spec =
     (tie.spec
     Inv-loop
     μ-loop
+    (λ c κs. search needs)
     (λ c. search needs)
     (λ c κs. search needs)
     (λ c κs. search needs)

@@ -13,6 +13,7 @@ pub write-lent-spec : {M : Type 1} → statement M
 write-lent-spec =
     tie.close
     (tie.spec
+    (λ c κs. search needs)
     (λ c. search needs)
     slice-aggregate-write-letter
     (λ c κs. search needs)
