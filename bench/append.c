@@ -6,6 +6,7 @@
 #include "digest_c.h"
 #include "keeper.h"
 #include "marks.h"
+#include "mode.h"
 
 /* theirs, by two compilers (theirs.c) */
 void gcc_digest(const uint8_t *bytes, size_t length, uint8_t out[32]);
@@ -13,6 +14,8 @@ void clang_digest(const uint8_t *bytes, size_t length, uint8_t out[32]);
 
 #define NODE 32
 #define MOST (((uint64_t)1 << 20) + 32)
+static const digest_c_mode digest_mode = MODE;
+static const keeper_mode mode = MODE;
 static uint8_t record[16384], new_nodes[6 * NODE];
 static uint8_t *nodes;
 
@@ -23,8 +26,8 @@ static uint8_t *node(uint64_t position) { return nodes + NODE * position; }
 static uint8_t *left_of(uint64_t leaf, unsigned j) { return node(leaf + j - (((uint64_t)2 << j) - 1)); }
 
 static void our_digests(uint64_t size, unsigned merges, size_t length) {
-    digest_c_of(record, length, node(size));
-    for (unsigned j = 0; j < merges; j++) digest_c_pair(left_of(size, j), node(size + j), node(size + j + 1));
+    digest_c_of(&digest_mode, record, length, node(size));
+    for (unsigned j = 0; j < merges; j++) digest_c_pair(&digest_mode, left_of(size, j), node(size + j), node(size + j + 1));
 }
 
 /* theirs takes the two digests of a parent side by side */
@@ -58,7 +61,7 @@ static void measure(unsigned height, unsigned merges, size_t length) {
     size_t room = NODE * size_of(leaves + 1);
     char name[64];
     snprintf(name, sizeof name, "%zu %u %u", length, merges, height);
-    MEASURE("append", name, keeper_append(size, record, length, nodes, room, &new_size, &hashes));
+    MEASURE("append", name, keeper_append(&mode, size, record, length, nodes, room, &new_size, &hashes));
     if (new_size != size_of(leaves + 1) || hashes != merges + 1) {
         fprintf(stderr, "bench: append %s was refused\n", name);
         exit(1);

@@ -7,5 +7,8 @@ here=$(readlink -f -- "$0")
 top=${here%/*/*}
 # shellcheck source=bench/count.sh
 . "$top/bench/count.sh"
-counted_by_both "$work/append" "$here/append.c"
-table append
+count_append() {
+    counted_by_both "$work/append" "$here/append.c"
+    table append
+}
+in_both_modes count_append

@@ -6,6 +6,7 @@
 #include "digest_c.h"
 #include "keeper.h"
 #include "marks.h"
+#include "mode.h"
 
 /* theirs, by two compilers (theirs.c) */
 void gcc_digest(const uint8_t *bytes, size_t length, uint8_t out[32]);
@@ -14,6 +15,8 @@ void clang_digest(const uint8_t *bytes, size_t length, uint8_t out[32]);
 #define NODE 32
 #define RECORD 200
 #define HEAD 20
+static const digest_c_mode digest_mode = MODE;
+static const keeper_mode mode = MODE;
 static uint8_t letter[HEAD + RECORD + 32 * NODE], trusted[NODE], worked[NODE];
 
 static uint8_t *record(void) { return letter + HEAD; }
@@ -38,10 +41,10 @@ static void make_letter(unsigned height, uint64_t index) {
 
 /* the digests of a check alone: the record's, and one for each item, on the left where the index has a bit */
 static void our_digests(unsigned height, uint64_t index) {
-    digest_c_of(record(), RECORD, worked);
+    digest_c_of(&digest_mode, record(), RECORD, worked);
     for (unsigned k = 0; k < height; k++) {
-        if (index >> k & 1) digest_c_pair(item(k), worked, worked);
-        else digest_c_pair(worked, item(k), worked);
+        if (index >> k & 1) digest_c_pair(&digest_mode, item(k), worked, worked);
+        else digest_c_pair(&digest_mode, worked, item(k), worked);
     }
 }
 
@@ -78,7 +81,7 @@ static void measure(unsigned height) {
     make_letter(height, index);
     our_digests(height, index);
     memcpy(trusted, worked, NODE);
-    MEASURE("check", name, number = keeper_letter_check(2 * leaves - 1, trusted, NODE, letter, length, &found, &at, &record_length));
+    MEASURE("check", name, number = keeper_letter_check(&mode, 2 * leaves - 1, trusted, NODE, letter, length, &found, &at, &record_length));
     if (number != KEEPER_DONE || found != index || at != HEAD || record_length != RECORD) {
         fprintf(stderr, "bench: check %s was refused\n", name);
         exit(1);

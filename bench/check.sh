@@ -7,5 +7,8 @@ here=$(readlink -f -- "$0")
 top=${here%/*/*}
 # shellcheck source=bench/count.sh
 . "$top/bench/count.sh"
-counted_by_both "$work/check" "$here/check.c"
-table check
+count_check() {
+    counted_by_both "$work/check" "$here/check.c"
+    table check
+}
+in_both_modes count_check

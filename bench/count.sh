@@ -41,7 +41,7 @@ theirs() {
     for source in "$blake3/blake3.c" "$blake3/blake3_dispatch.c" "$blake3/blake3_portable.c" ${more_sources-} "$here/theirs.c"; do
         object=$work/$name-$(basename "$source" .c).o
         # shellcheck disable=SC2086
-        "$@" $flags -DNAME="${name}_digest" -I"$work/include" -I"$blake3" -c "$source" -o "$object"
+        "$@" $flags $keyed -DNAME="${name}_digest" -I"$work/include" -I"$blake3" -I"$here" -c "$source" -o "$object"
         objects="$objects $object"
     done
     # shellcheck disable=SC2086
@@ -89,9 +89,9 @@ measured() {
         marks=-DCALLGRIND
     fi
     # shellcheck disable=SC2086
-    "$gcc" -O2 -static $marks -I"$here" "$@" -o "$program"
+    "$gcc" -O2 -static $marks $keyed -I"$here" "$@" -o "$program"
     if [ "$machine" = x86_64 ]; then count_by_valgrind "$program"; else count_by_emulator "$program"; fi
-    echo "Executed instructions, $how, and nanoseconds where they are measured."
+    echo "Executed instructions${keyed:+ in a keyed mode}, $how, and nanoseconds where they are measured."
     paste "$work/names" "$work/counts" >"$work/measured"
 }
 
@@ -116,11 +116,19 @@ counted_by_both() {
     counted "$1" -I"$top/include" -I"$top/crates/digest_c" "$2" "$work/digest.o" "$archive"
 }
 
+# in_both_modes COMMAND..: the same counted in the plain mode, and then in a keyed one; 1 where a limit was missed in either
+in_both_modes() {
+    missed=0
+    for keyed in '' -DKEYED; do "$@" || missed=1; done
+    return $missed
+}
+
 # table NAME: the table of what was counted, and the limits
 table() {
     awk -F '\t' -f "$here/reads.awk" -f "$here/$1.awk" "$work/times" "$work/measured"
 }
 
+keyed=
 find_kit
 one_at_a_time
 make_work

@@ -5,12 +5,14 @@
 #include <stdlib.h>
 #include "digest_c.h"
 #include "marks.h"
+#include "mode.h"
 
 /* theirs, by two compilers (theirs.c) */
 void gcc_digest(const uint8_t *bytes, size_t length, uint8_t out[32]);
 void clang_digest(const uint8_t *bytes, size_t length, uint8_t out[32]);
 
 #define LONGEST 100000
+static const digest_c_mode mode = MODE;
 static uint8_t input[LONGEST], ours[32], gcc[32], clang[32];
 
 static void compare(const char *name) {
@@ -26,7 +28,7 @@ static void compare(const char *name) {
 static void measure_digest(size_t length) {
     char name[64];
     snprintf(name, sizeof name, "digest of %zu bytes", length);
-    MEASURE("ours", name, digest_c_of(input, length, ours));
+    MEASURE("ours", name, digest_c_of(&mode, input, length, ours));
     MEASURE("gcc", name, gcc_digest(input, length, gcc));
     MEASURE("clang", name, clang_digest(input, length, clang));
     compare(name);
@@ -35,7 +37,7 @@ static void measure_digest(size_t length) {
 /* theirs takes the two digests where they lie side by side already */
 static void measure_parent(void) {
     const char *name = "one parent of 64 bytes";
-    MEASURE("ours", name, digest_c_pair(input, input + 32, ours));
+    MEASURE("ours", name, digest_c_pair(&mode, input, input + 32, ours));
     MEASURE("gcc", name, gcc_digest(input, 64, gcc));
     MEASURE("clang", name, clang_digest(input, 64, clang));
     compare(name);

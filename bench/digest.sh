@@ -3,6 +3,7 @@
 # The C is compiled by gcc and by the kit's own clang; a ratio is to the better of the two. The three run in one program
 # on the same bytes, and their digests are compared. On x86-64 valgrind counts, and the times are printed too; elsewhere
 # the kit's emulator runs one instruction at a time, and its trace is counted. What is missing is named.
+# First in the plain mode, then in a keyed one.
 # Exit status: 0 where every limit is met, 1 where one is missed or two digests differ, 2 where nothing could be measured.
 set -eu
 here=$(readlink -f -- "$0")
@@ -10,5 +11,8 @@ top=${here%/*/*}
 # shellcheck source=bench/count.sh
 . "$top/bench/count.sh"
 static_library digest_c
-counted "$work/digest" -I"$top/crates/digest_c" "$here/digest.c" "$archive"
-table digest
+count_digest() {
+    counted "$work/digest" -I"$top/crates/digest_c" "$here/digest.c" "$archive"
+    table digest
+}
+in_both_modes count_digest

@@ -6,6 +6,7 @@
 #include <sys/mman.h>
 #include "keeper.h"
 #include "marks.h"
+#include "mode.h"
 
 /* theirs, by two compilers (theirs.c) */
 typedef void Digest(const uint8_t *bytes, size_t length, uint8_t out[32]);
@@ -15,6 +16,7 @@ Digest gcc_digest, clang_digest;
 #define RECORD 200
 #define HEAD 20
 #define MOST 28
+static const keeper_mode mode = MODE;
 static uint8_t record[RECORD], letter[HEAD + RECORD + MOST * NODE], root[NODE], first[2 * NODE], second[2 * NODE];
 static uint8_t worked[NODE], folded[NODE], *nodes;
 
@@ -40,7 +42,7 @@ static void make_log(const Log *log) {
     uint64_t at = 0;
     uint8_t pair[2 * NODE];
     keeper_leaf_position(log->index, &at);
-    keeper_digest(record, RECORD, node(at), NODE);
+    keeper_digest(&mode, record, RECORD, node(at), NODE);
     for (unsigned k = 0; k < log->height; k++) {
         uint64_t below = ((uint64_t)2 << k) - 1;
         int is_right = log->index >> k & 1;
@@ -49,7 +51,7 @@ static void make_log(const Log *log) {
         memcpy(pair + (is_right ? NODE : 0), node(at), NODE);
         memcpy(pair + (is_right ? 0 : NODE), node(sibling), NODE);
         at = is_right ? at + 1 : sibling + 1;
-        keeper_digest(pair, sizeof pair, node(at), NODE);
+        keeper_digest(&mode, pair, sizeof pair, node(at), NODE);
     }
 }
 
@@ -107,10 +109,10 @@ static void measure(const char *name, const Log *log, size_t length, uint32_t wa
     uint64_t checked = 0;
     size_t at = 0, record_length = 0;
     uint32_t number = 1, found = 0;
-    MEASURE("check", name, number = keeper_letter_check(log->size, root, NODE, letter, length, &checked, &at, &record_length));
+    MEASURE("check", name, number = keeper_letter_check(&mode, log->size, root, NODE, letter, length, &checked, &at, &record_length));
     demand(number == wanted, "the check answers another number", name);
     MEASURE("find", name,
-            number = keeper_find(log->size, nodes, NODE * log->size, record, RECORD, letter, length, first, sizeof first, second,
+            number = keeper_find(&mode, log->size, nodes, NODE * log->size, record, RECORD, letter, length, first, sizeof first, second,
                                  sizeof second, &found));
     demand(number == wanted, "the finder answers another number", name);
     demand(wanted != KEEPER_DONE || found == KEEPER_SAME, "the finder did not say same", name);
@@ -127,8 +129,8 @@ static void measure_log(Log log) {
     snprintf(refused, sizeof refused, "%s refused", log.name);
     demand(keeper_size(log.leaves, &log.size) == KEEPER_DONE, "no size", log.name);
     make_log(&log);
-    demand(keeper_root(log.size, nodes, NODE * log.size, root, NODE) == KEEPER_DONE, "no root", log.name);
-    uint32_t number = keeper_letter_write(log.size, log.index, record, RECORD, nodes, NODE * log.size, letter, sizeof letter, &length);
+    demand(keeper_root(&mode, log.size, nodes, NODE * log.size, root, NODE) == KEEPER_DONE, "no root", log.name);
+    uint32_t number = keeper_letter_write(&mode, log.size, log.index, record, RECORD, nodes, NODE * log.size, letter, sizeof letter, &length);
     demand(number == KEEPER_DONE, "no letter", log.name);
     measure(log.name, &log, length, KEEPER_DONE);
     letter[HEAD] ^= 1;

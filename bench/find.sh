@@ -9,5 +9,8 @@ top=${here%/*/*}
 # shellcheck source=bench/count.sh
 . "$top/bench/count.sh"
 static_library keeper
-counted "$work/find" -I"$top/include" "$here/find.c" "$archive"
-table find
+count_find() {
+    counted "$work/find" -I"$top/include" "$here/find.c" "$archive"
+    table find
+}
+in_both_modes count_find

@@ -9,6 +9,8 @@
 #include <time.h>
 #include "keeper.h"
 
+static const keeper_mode mode; /* plain */
+
 static double now(void) {
     struct timespec t;
     clock_gettime(CLOCK_MONOTONIC, &t);
@@ -39,10 +41,10 @@ int main(int count, char **words) {
     double from = now();
     for (uint64_t i = 0; i < records; i++) {
         number_record(record, i);
-        if (keeper_append(size, record, length, nodes, room, &size, &hashes) != KEEPER_DONE) return 1;
+        if (keeper_append(&mode, size, record, length, nodes, room, &size, &hashes) != KEEPER_DONE) return 1;
     }
     double took = now() - from;
-    if (keeper_root(size, nodes, room, root, 32) != KEEPER_DONE) return 1;
+    if (keeper_root(&mode, size, nodes, room, root, 32) != KEEPER_DONE) return 1;
     printf("%.3f %llu ", took, (unsigned long long)size);
     for (int i = 0; i < 32; i++) printf("%02x", root[i]);
     putchar('\n');

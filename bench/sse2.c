@@ -5,17 +5,19 @@
 #include <stdlib.h>
 #include "digest_c.h"
 #include "marks.h"
+#include "mode.h"
 
 /* theirs (theirs.c) */
 void sse2_digest(const uint8_t *bytes, size_t length, uint8_t out[32]);
 
 #define LONGEST 100000
+static const digest_c_mode mode = MODE;
 static uint8_t input[LONGEST], ours[32], theirs[32];
 
 static void measure(size_t length) {
     char name[64];
     snprintf(name, sizeof name, "digest of %zu bytes", length);
-    MEASURE("ours", name, digest_c_of(input, length, ours));
+    MEASURE("ours", name, digest_c_of(&mode, input, length, ours));
     MEASURE("sse2", name, sse2_digest(input, length, theirs));
     if (memcmp(ours, theirs, 32) != 0) {
         fprintf(stderr, "bench: %s: the digests differ\n", name);
