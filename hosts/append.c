@@ -6,7 +6,7 @@
 #include "answer.h"
 #include "commands.h"
 #include "input.h"
-#include "keeper.h"
+#include "key.h"
 #include "progress.h"
 #include "say.h"
 #include "start.h"
@@ -103,6 +103,7 @@ static int append_files(const Asked *asked, char *const *paths, size_t count) {
         progress_tell(&work.progress, "records", work.records, work.bytes);
     }
     if (keep(&work) != 0) fail("cannot write %s: %s. It is not certain what is on disk: keeper info shows it", asked->words[0], strerror(work.error));
+    forget_key();
     tell(&work);
     store_stays(&work.log);
     store_close(&work.log);
@@ -144,6 +145,7 @@ static int append_stream(const Asked *asked) {
     size_t length;
     uint32_t number = KEEPER_DONE;
     Next next = A_RECORD;
+    take_standard_input();
     begin(&work, asked);
     stream.pause = pause_of;
     stream.of = &work;
@@ -157,6 +159,7 @@ static int append_stream(const Asked *asked) {
         if (keep(&work) == 0) work.error = full;
         else number = KEEPER_DONE;
     }
+    forget_key();
     tell(&work);
     int status = say_end(&work, &stream, next, number);
     if (status == DONE) store_stays(&work.log);
