@@ -28,6 +28,10 @@ class Installed(HostTest):
         (self.folder / "panel").symlink_to(self.at / "bin" / "panel")
         ran = subprocess.run([self.folder / "panel"], input=size.to_bytes(8, "big") + top + letter_of(RECORDS[:5], 2), capture_output=True, check=False, env=path)
         self.assertEqual((ran.returncode, ran.stdout, ran.stderr), (0, b"0\n", b""))
+        key = bytes(range(32))
+        given = size.to_bytes(8, "big") + said_of(RECORDS[:5], key)[1] + letter_of(RECORDS[:5], 2, key)
+        ran = subprocess.run([self.folder / "panel", "--key", self.file("key", key)], input=given, capture_output=True, check=False, env=path)
+        self.assertEqual((ran.returncode, ran.stdout, ran.stderr), (0, b"0\n", b""))
         ran = subprocess.run([self.at / "bin" / "panel", "--version"], capture_output=True, check=True, env=path)
         self.assertIn(b"panel (Cinchcleat)", ran.stdout)
 
