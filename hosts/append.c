@@ -6,7 +6,7 @@
 #include "answer.h"
 #include "commands.h"
 #include "input.h"
-#include "key.h"
+#include "keeper.h"
 #include "progress.h"
 #include "say.h"
 #include "start.h"
@@ -103,7 +103,6 @@ static int append_files(const Asked *asked, char *const *paths, size_t count) {
         progress_tell(&work.progress, "records", work.records, work.bytes);
     }
     if (keep(&work) != 0) fail("cannot write %s: %s. It is not certain what is on disk: keeper info shows it", asked->words[0], strerror(work.error));
-    forget_key();
     tell(&work);
     store_stays(&work.log);
     store_close(&work.log);
@@ -159,7 +158,6 @@ static int append_stream(const Asked *asked) {
         if (keep(&work) == 0) work.error = full;
         else number = KEEPER_DONE;
     }
-    forget_key();
     tell(&work);
     int status = say_end(&work, &stream, next, number);
     if (status == DONE) store_stays(&work.log);

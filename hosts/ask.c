@@ -6,6 +6,7 @@
 #include "answer.h"
 #include "commands.h"
 #include "input.h"
+#include "keeper.h"
 #include "key.h"
 #include "say.h"
 #include "store.h"
@@ -35,7 +36,6 @@ int root(const Asked *asked) {
     store_open(&log, asked->words[0], TO_READ, 0);
     uint64_t size = size_asked(&log, asked);
     uint32_t number = trusted_root(&log, size, top);
-    forget_key();
     if (number != KEEPER_DONE) return refused("root", number);
     keeper_leaf_count(size, &leaves);
     hex_of(top, NODE, digits);
@@ -76,7 +76,6 @@ int info(const Asked *asked) {
     char digits[2 * NODE + 1] = "";
     demand_words(asked, 1, 1);
     store_open(&log, asked->words[0], TO_TELL, 0);
-    forget_key();
     if (log.size > 0) hex_of(log.state.root, NODE, digits);
     line("records %" PRIu64 "\nsize    %" PRIu64 "\nroot    %s\nfile    %s, %zu bytes\nkeyed   %s\nstate   %s", store_leaves(&log), log.size,
          digits[0] ? digits : "none, the log is empty", log.file.path, log.file.length, log.mark.keyed ? "yes" : "no", state_of(&log));
@@ -176,7 +175,6 @@ int find(const Asked *asked) {
     read_input(&written, asked->words[2], LONGEST_LETTER + 1);
     uint32_t number = keeper_find(log.mode, size, store_nodes(&log), lent(&log), record.bytes, record.length, written.bytes, written.length, ours, PAIR,
                                   theirs, PAIR, &found);
-    forget_key();
     if (number != KEEPER_DONE) return refused("find", number);
     put_number("size", size);
     put_text("found", found == KEEPER_SAME ? "same" : found == KEEPER_RECORDS ? "records" : "pair");

@@ -11,6 +11,7 @@
 #include "answer.h"
 #include "commands.h"
 #include "input.h"
+#include "keeper.h"
 #include "key.h"
 #include "numbers.h"
 #include "page.h"
@@ -157,7 +158,6 @@ static int check_many(Checks *checks) {
     put_text("root", checks->asked->words[1]);
     put_open("letters", '[');
     for (int i = 2; i < checks->asked->count; i++) check_path(checks, checks->asked->words[i]);
-    forget_key();
     put_close();
     uint64_t all = checks->accepted + checks->refused + checks->unread;
     line("%" PRIu64 " letters: %" PRIu64 " accepted, %" PRIu64 " refused, %" PRIu64 " not read", all, checks->accepted, checks->refused, checks->unread);

@@ -85,7 +85,9 @@ int main(int count, char **words) {
         take_options(&asked, commands[i].takes, count - 2, words + 2);
         if (asked.help) return answer_end(help(&asked));
         int status = take_key(asked.key);
-        return answer_end(status == DONE ? commands[i].run(&asked) : status);
+        if (status == DONE) status = commands[i].run(&asked);
+        forget_key();
+        return answer_end(status);
     }
     if (count > 1) wrong_use("there is no command %s", words[1]);
     fprintf(stderr, "%s", usage);

@@ -41,7 +41,7 @@ int take_key(const char *path) {
 
 const keeper_mode *mode_taken(void) { return &held.mode; }
 
-/* What digests have left of it on the stack: they are worked out from where the key is forgotten, or from further down. */
+/* What digests have left of it on the stack, below where it is forgotten. */
 __attribute__((noinline)) static void wipe_stack(void) {
     uint8_t below[1 << 15];
     explicit_bzero(below, sizeof below);

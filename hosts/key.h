@@ -13,7 +13,8 @@ int take_key(const char *path);
 /* The mode of this run: that of the key, or plain where none was taken. */
 const keeper_mode *mode_taken(void);
 
-/* The key leaves memory, as soon as no more digest is to be worked out. The mode stays keyed: a digest that came all the same would be no plain one. */
+/* The key leaves memory: behind each command, and before that where much is written behind its last digest. The mode stays keyed, so that a digest which
+   came all the same would be no plain one. */
 void forget_key(void);
 
 /* Fails, with words, where a path leads to the file that the key was taken from: no output is written over it. */

@@ -11,6 +11,7 @@
 #include <string.h>
 #include <unistd.h>
 #include "fresh.h"
+#include "keeper.h"
 #include "key.h"
 #include "records.h"
 #include "say.h"

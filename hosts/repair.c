@@ -12,6 +12,7 @@
 #include "answer.h"
 #include "commands.h"
 #include "input.h"
+#include "keeper.h"
 #include "key.h"
 #include "say.h"
 #include "store.h"
@@ -108,7 +109,6 @@ int repair(const Asked *asked) {
     keeper_leaf_count(log.newest.size, &leaves);
     keeper_leaf_count(log.state.size, &older);
     if (log.found == SOUND && !wrong_among(log.mode, store_nodes(&log), 0, leaves, &wrong)) {
-        forget_key();
         line("nothing is to be repaired: the log is whole, with %" PRIu64 " records", leaves);
         put_number("records", leaves);
         return DONE;

@@ -3,6 +3,7 @@
    keyed log the name is another one, and behind the root there is a tag (32), the digest of that name under the log's key: it tells another key, and
    nobody finds the key by it. The plain digest is then that of those 88 bytes. */
 #include <string.h>
+#include "keeper.h"
 #include "key.h"
 #include "sizes.h"
 

@@ -27,6 +27,7 @@
 #include <time.h>
 #include <unistd.h>
 #include "fresh.h"
+#include "keeper.h"
 #include "key.h"
 #include "progress.h"
 #include "say.h"

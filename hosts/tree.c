@@ -1,5 +1,6 @@
 /* Where the nodes of a log stand, and whether each inner node is the digest of its two children. */
 #include <string.h>
+#include "keeper.h"
 #include "tree.h"
 
 void digest_of_pair(const keeper_mode *mode, const uint8_t *left, const uint8_t *right, uint8_t out[NODE]) {

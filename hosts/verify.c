@@ -5,7 +5,7 @@
 #include "answer.h"
 #include "commands.h"
 #include "input.h"
-#include "key.h"
+#include "keeper.h"
 #include "progress.h"
 #include "say.h"
 #include "store.h"
@@ -77,7 +77,6 @@ int verify(const Asked *asked) {
     put_number("leaves_looked_at", held);
     if (lowest_wrong(&log, leaves, asked->records, &wrong, &is_leaf)) return tell_wrong(&log, &wrong, is_leaf);
     if (log.found != SOUND && log.found != COPY_DAMAGED) return tell_other(&log);
-    forget_key();
     line("whole: %" PRIu64 " records; each of %" PRIu64 " inner nodes is the digest of its two children, and the root is the one that was kept", leaves,
          log.newest.size - leaves);
     if (asked->records) line("and each of %" PRIu64 " leaves is the digest of its record", held);

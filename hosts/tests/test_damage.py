@@ -1,7 +1,7 @@
 """Damaged logs: what is found, what reading falls back to, that nothing is appended, verify and repair."""
 import unittest
 
-from harness import COPY, KEY, NODE, NODES, PAGE, RECORDS, SEALED, HostTest, flipped, keeper, nodes_of, said_of
+from harness import COPY, FEWER, KEY, NODE, NODES, PAGE, RECORDS, SEALED, HostTest, flipped, keeper, nodes_of, said_of
 
 
 class DamageTest(HostTest):
@@ -98,7 +98,7 @@ class Damage(DamageTest):
     def test_sizes(self):
         """One changed byte in a size: another copy is whole, nothing is missing, and the next append goes on."""
         for start in (0, COPY, PAGE, PAGE + COPY):
-            for place in range(0, SEALED, 6):
+            for place in range(0, SEALED, 6 * FEWER):
                 path = self.file("sizes", flipped(self.whole, start + place))
                 self.reads(path, RECORDS[:5], "a copy of its size is damaged")
                 if place % 24 == 0 or place + 6 >= SEALED:

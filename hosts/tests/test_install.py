@@ -1,5 +1,6 @@
 """make install: what is installed runs alone, and a C program finds the library by pkg-config; the manual pages and completion."""
 import os
+import re
 import shutil
 import subprocess
 import unittest
@@ -72,7 +73,7 @@ class Manual(HostTest):
 
     def test_every_call(self):
         page, header = (TOP / "man" / "keeper.3").read_text(), (TOP / "include" / "keeper.h").read_text()
-        calls = {part.split("(")[0] for part in header.split() if part.startswith("keeper_")}
+        calls = set(re.findall(r"^uint32_t (keeper_\w+)\(", header, re.M))
         self.assertGreater(len(calls), 10)
         self.assertEqual([call for call in sorted(calls) if call not in page], [])
 
