@@ -69,7 +69,7 @@ static void put_noted(FILE *out, const Verdict *verdict) {
     fprintf(out, "<section>\n<h2>What was noted</h2>\n<table>\n<tr><th>size</th><td>%" PRIu64, verdict->size);
     if (number == KEEPER_DONE) fprintf(out, ", which is a log of %" PRIu64 " records", leaves);
     fprintf(out, "</td></tr>\n<tr><th>root</th><td><code id=\"noted\">%s</code></td></tr>\n", verdict->root);
-    if (verdict->keyed) fputs("<tr><th>key</th><td id=\"key\">one was given; it is on no page</td></tr>\n", out);
+    if (verdict->keyed) fputs("<tr><th>key</th><td id=\"key\">given, and not shown</td></tr>\n", out);
     fputs("</table>\n</section>\n", out);
 }
 

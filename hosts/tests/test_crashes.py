@@ -28,8 +28,8 @@ class Killed(HostTest):
 
     def test_in_a_loop(self):
         """What was acknowledged is there after every kill, the log is whole, and the next stream goes on from it."""
-        chance, records, kept, acknowledged, turns = random.Random(1), [run_record(i, 40) for i in range(400)], 0, 0, 25 // FEWER
-        for turn in range(turns):
+        chance, records, kept, acknowledged = random.Random(1), [run_record(i, 40) for i in range(400)], 0, 0
+        for turn in range(25):
             size = self.killed(chance, records[kept:kept + 8], *(("--keep-records",) if turn % 2 else ()))
             before, kept = kept, self.records_in()
             self.assertTrue(before <= kept <= before + 8)
@@ -37,7 +37,7 @@ class Killed(HostTest):
             acknowledged += size > 0
             if self.log.exists():
                 self.done("verify", self.log)
-        self.assertGreater(acknowledged, turns // 5)
+        self.assertGreater(acknowledged, 5)
         self.done("append", self.log, "--stream", given=stream_of(records[kept:kept + 5]))
         self.holds(records[:kept + 5])
         first = self.object(0, "info", self.log)["records_kept_from"]

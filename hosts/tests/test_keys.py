@@ -208,7 +208,7 @@ class Leagues(KeyTest):
         """The page says that a key was given, and does not have it."""
         page = self.folder / "page.html"
         self.done("check", self.size, self.top.hex(), "--key", self.key, "--page", page, given=self.letter.read_bytes())
-        self.assertIn('<td id="key">one was given; it is on no page</td>', page.read_text())
+        self.assertIn('<td id="key">given, and not shown</td>', page.read_text())
         self.assertIn("one BLAKE3 digest under the key", page.read_text())
         self.done("check", 8, said_of(self.records, None)[1].hex(), "--page", page, given=letter_of(self.records, 1, None))
         self.assertNotIn("key", page.read_text())
