@@ -1,4 +1,4 @@
-# Completion for bash: keeper's commands and their options, then files; panel has options alone.
+# Completion for bash: keeper's commands and their options, then files; panel has options, and a file for its key.
 # shellcheck shell=bash
 
 _keeper() {
@@ -10,17 +10,18 @@ _keeper() {
     fi
     case $before in
     --folder | --records-to) mapfile -t COMPREPLY < <(compgen -d -- "$word"); return ;;
-    --record | --page) mapfile -t COMPREPLY < <(compgen -f -- "$word"); return ;;
+    --record | --page | --key) mapfile -t COMPREPLY < <(compgen -f -- "$word"); return ;;
     --size | --wait) return ;;
     esac
     case ${COMP_WORDS[1]} in
-    append) options="--folder --stream --acknowledge --keep-records --wait" ;;
-    root) options="--size --bytes" ;;
-    letter) options="--size --record" ;;
-    check) options="--show --record --records-to --page" ;;
-    find) options="--size" ;;
-    verify) options="--records" ;;
-    repair) options="--wait" ;;
+    append) options="--folder --stream --acknowledge --keep-records --wait --key" ;;
+    root) options="--size --bytes --key" ;;
+    info) options="--key" ;;
+    letter) options="--size --record --key" ;;
+    check) options="--show --record --records-to --page --key" ;;
+    find) options="--size --key" ;;
+    verify) options="--records --key" ;;
+    repair) options="--wait --key" ;;
     *) options= ;;
     esac
     case $word in
@@ -30,8 +31,11 @@ _keeper() {
 }
 
 _panel() {
-    mapfile -t COMPREPLY < <(compgen -W "-h --version" -- "${COMP_WORDS[COMP_CWORD]}")
+    case ${COMP_WORDS[COMP_CWORD - 1]} in
+    --key) mapfile -t COMPREPLY < <(compgen -f -- "${COMP_WORDS[COMP_CWORD]}") ;;
+    *) mapfile -t COMPREPLY < <(compgen -W "--key -h --version" -- "${COMP_WORDS[COMP_CWORD]}") ;;
+    esac
 }
 
 complete -o filenames -F _keeper keeper
-complete -F _panel panel
+complete -o filenames -F _panel panel

@@ -144,6 +144,7 @@ static int append_stream(const Asked *asked) {
     size_t length;
     uint32_t number = KEEPER_DONE;
     Next next = A_RECORD;
+    take_standard_input();
     begin(&work, asked);
     stream.pause = pause_of;
     stream.of = &work;

@@ -7,6 +7,7 @@
 #include "commands.h"
 #include "input.h"
 #include "keeper.h"
+#include "key.h"
 #include "say.h"
 #include "store.h"
 #include "trusted.h"
@@ -49,10 +50,13 @@ int root(const Asked *asked) {
 
 /* ---- info */
 
+static int is_whole(const Store *log) { return log->found == SOUND || log->found == COPY_DAMAGED; }
+
 static const char *state_of(const Store *log) {
     static const char *const words[] = {[SOUND] = "whole", [COPY_DAMAGED] = "whole, a copy of its size is damaged",
                                         [PAGE_LOST] = "damaged: a page of sizes is lost",
                                         [OLDER_STATE] = "damaged: read as it was before its newest state"};
+    if (log->is_shut && is_whole(log)) return "not looked at: its nodes can be held to its root with the key alone";
     return log->found < NO_STATE ? words[log->found] : "damaged";
 }
 
@@ -69,20 +73,20 @@ static void tell_records(const Store *log) {
 
 int info(const Asked *asked) {
     Store log;
-    uint8_t top[NODE];
     char digits[2 * NODE + 1] = "";
     demand_words(asked, 1, 1);
-    store_open(&log, asked->words[0], TO_READ, 0);
-    if (keeper_root(log.size, store_nodes(&log), lent(&log), top, NODE) == KEEPER_DONE) hex_of(top, NODE, digits);
-    line("records %" PRIu64 "\nsize    %" PRIu64 "\nroot    %s\nfile    %s, %zu bytes\nstate   %s", store_leaves(&log), log.size,
-         digits[0] ? digits : "none, the log is empty", log.file.path, log.file.length, state_of(&log));
+    store_open(&log, asked->words[0], TO_TELL, 0);
+    if (log.size > 0) hex_of(log.state.root, NODE, digits);
+    line("records %" PRIu64 "\nsize    %" PRIu64 "\nroot    %s\nfile    %s, %zu bytes\nkeyed   %s\nstate   %s", store_leaves(&log), log.size,
+         digits[0] ? digits : "none, the log is empty", log.file.path, log.file.length, log.mark.keyed ? "yes" : "no", state_of(&log));
     put_number("records", store_leaves(&log));
     put_number("size", log.size);
     put_text("root", digits);
     put_text("file", log.file.path);
     put_number("file_length", log.file.length);
+    put_flag("keyed", log.mark.keyed);
     put_text("state", state_of(&log));
-    put_flag("whole", log.found == SOUND || log.found == COPY_DAMAGED);
+    if (!log.is_shut || !is_whole(&log)) put_flag("whole", is_whole(&log));
     records_open(&log.records, log.file.path, store_leaves(&log), 0, 0);
     tell_records(&log);
     store_close(&log);
@@ -118,7 +122,7 @@ static int other_record(const Store *log, uint64_t size, uint64_t index, int was
 static void demand_accepted(const Store *log, uint64_t size, uint64_t index, const uint8_t top[NODE]) {
     uint64_t named;
     size_t at, length;
-    if (keeper_letter_check(size, top, NODE, written.bytes, written.length, &named, &at, &length) == KEEPER_DONE && named == index) return;
+    if (keeper_letter_check(log->mode, size, top, NODE, written.bytes, written.length, &named, &at, &length) == KEEPER_DONE && named == index) return;
     demand_way(log, size, index);
     fail_damaged(log, NULL);
 }
@@ -132,12 +136,13 @@ int write_letter(const Asked *asked) {
     store_open(&log, asked->words[0], TO_READ, 0);
     uint64_t size = size_asked(&log, asked);
     int was_kept = take_record(&log, asked, index);
-    uint32_t number = keeper_letter_write(size, index, record.bytes, record.length, store_nodes(&log), lent(&log), written.bytes,
+    uint32_t number = keeper_letter_write(log.mode, size, index, record.bytes, record.length, store_nodes(&log), lent(&log), written.bytes,
                                           sizeof written.bytes, &written.length);
     if (number == KEEPER_OTHER_RECORD) return other_record(&log, size, index, was_kept);
     if (number == KEEPER_DONE) number = trusted_root(&log, size, top);
     if (number != KEEPER_DONE) return refused("letter", number);
     demand_accepted(&log, size, index, top);
+    forget_key();
     if (!asked->json) fwrite(written.bytes, 1, written.length, stdout);
     put_number("size", size);
     put_bytes("root", top, NODE);
@@ -168,8 +173,8 @@ int find(const Asked *asked) {
     uint64_t size = size_asked(&log, asked);
     read_input(&record, asked->words[1], LONGEST_RECORD + 1);
     read_input(&written, asked->words[2], LONGEST_LETTER + 1);
-    uint32_t number = keeper_find(size, store_nodes(&log), lent(&log), record.bytes, record.length, written.bytes, written.length, ours, PAIR, theirs,
-                                  PAIR, &found);
+    uint32_t number = keeper_find(log.mode, size, store_nodes(&log), lent(&log), record.bytes, record.length, written.bytes, written.length, ours, PAIR,
+                                  theirs, PAIR, &found);
     if (number != KEEPER_DONE) return refused("find", number);
     put_number("size", size);
     put_text("found", found == KEEPER_SAME ? "same" : found == KEEPER_RECORDS ? "records" : "pair");

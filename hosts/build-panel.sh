@@ -1,8 +1,10 @@
 #!/bin/sh
-# hosts/build-panel.sh: proves and builds the panel's program, where a source is newer. Exit status: 0, or 2 where it could not be built.
+# hosts/build-panel.sh: proves and builds the panel's two programs, for plain logs and for keyed ones, where a source is newer.
+# Exit status: 0, or 2 where one could not be built.
 set -eu
 here=$(readlink -f -- "$0")
 top=${here%/*/*}
 # shellcheck source=shell/program.sh
 . "$top/shell/program.sh"
 build panel
+build keyed_panel

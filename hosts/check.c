@@ -12,6 +12,7 @@
 #include "commands.h"
 #include "input.h"
 #include "keeper.h"
+#include "key.h"
 #include "numbers.h"
 #include "page.h"
 #include "say.h"
@@ -23,6 +24,7 @@ static View view;
 /* What is trusted, and how many letters were accepted, refused, and not read. */
 typedef struct {
     const Asked *asked;
+    const keeper_mode *mode;
     uint64_t size, accepted, refused, unread;
     uint8_t top[ROOT + 1];
     size_t top_length;
@@ -91,16 +93,17 @@ static void put_letter(const char *name, uint32_t number) {
 
 /* ---- one letter */
 
-/* The library's number on the letter that was read. */
+/* The library's number on the letter that was read. Where it is the one on standard input, the key is not needed again. */
 static uint32_t judge(Checks *checks, const char *name) {
     uint64_t index;
     size_t at, length;
-    uint32_t number = keeper_letter_check(checks->size, checks->top, checks->top_length, letter.bytes, letter.length, &index, &at, &length);
-    int has_fields = view_letter(letter.bytes, letter.length, &view) == 0;
+    uint32_t number = keeper_letter_check(checks->mode, checks->size, checks->top, checks->top_length, letter.bytes, letter.length, &index, &at, &length);
+    int has_fields = view_letter(checks->mode, letter.bytes, letter.length, &view) == 0;
+    if (checks->asked->count == 2) forget_key();
     if (number == KEEPER_DONE) hand_out(checks, name, letter.bytes + at, length);
     if (number == KEEPER_DONE) checks->accepted++;
     else checks->refused++;
-    Verdict verdict = {checks->size, checks->asked->words[1], number, has_fields ? &view : NULL};
+    Verdict verdict = {checks->size, checks->asked->words[1], checks->mode->keyed != 0, number, has_fields ? &view : NULL};
     if (checks->asked->page && page_for_hearing(checks->asked->page, &verdict) != 0) fail("cannot write %s: %s", checks->asked->page, strerror(errno));
     return number;
 }
@@ -165,14 +168,21 @@ static int check_many(Checks *checks) {
     return checks->unread > 0 ? FAILED : checks->refused > 0 ? REFUSED : DONE;
 }
 
+/* No file that is needed later is written over by mistake. */
+static void demand_free(const char *path) {
+    if (!path) return;
+    demand_no_log(path);
+    demand_no_key(path);
+}
+
 int check(const Asked *asked) {
-    Checks checks = {.asked = asked};
+    Checks checks = {.asked = asked, .mode = mode_taken()};
     if (asked->count < 2) wrong_use("check needs the size and the root that were noted");
     checks.size = number_in(asked->words[0], "log's size");
     checks.top_length = bytes_in(asked->words[1], checks.top);
     if (asked->count > 2 && (asked->record || asked->page)) wrong_use("--record and --page go with one letter on standard input");
     if (asked->json && asked->record && strcmp(asked->record, "-") == 0) wrong_use("the record and an object cannot both go to standard output");
-    if (asked->record) demand_no_log(asked->record);
-    if (asked->page) demand_no_log(asked->page);
+    demand_free(asked->record);
+    demand_free(asked->page);
     return asked->count == 2 ? check_one(&checks) : check_many(&checks);
 }

@@ -8,31 +8,44 @@
 #include <sys/stat.h>
 #include <unistd.h>
 #include "input.h"
+#include "options.h"
 #include "say.h"
 #include "start.h"
 
 /* ---- whole files */
 
-static int read_whole(Input *input, int file, size_t most) {
-    input->length = 0;
-    while (input->length < most) {
+void take_standard_input(void) {
+    static int taken;
+    if (taken++ > 0) wrong_use("standard input cannot be the key and something else too: name a file for one of them");
+}
+
+static ssize_t read_whole(int file, uint8_t *bytes, size_t most) {
+    for (size_t done = 0;;) {
+        if (done == most) return (ssize_t)done;
         if (wait_for_input(file, -1) == STOP) fail("%s came before all was read: nothing was done", stop_asked());
-        ssize_t got = read(file, input->bytes + input->length, most - input->length);
+        ssize_t got = read(file, bytes + done, most - done);
         if (got < 0 && (errno == EINTR || errno == EAGAIN)) continue;
         if (got < 0) return -1;
-        if (got == 0) return 0;
-        input->length += (size_t)got;
+        if (got == 0) return (ssize_t)done;
+        done += (size_t)got;
     }
-    return 0;
+}
+
+ssize_t try_bytes(const char *path, uint8_t *bytes, size_t most) {
+    if (!path) take_standard_input();
+    int file = path ? open(path, O_RDONLY | O_CLOEXEC) : STDIN_FILENO;
+    if (file < 0) return -1;
+    ssize_t length = read_whole(file, bytes, most);
+    int error = errno;
+    if (path) close(file);
+    errno = error;
+    return length;
 }
 
 int try_input(Input *input, const char *path, size_t most) {
-    int file = path ? open(path, O_RDONLY | O_CLOEXEC) : STDIN_FILENO;
-    if (file < 0) return -1;
-    int status = read_whole(input, file, most), error = errno;
-    if (path) close(file);
-    errno = error;
-    return status;
+    ssize_t length = try_bytes(path, input->bytes, most);
+    input->length = length < 0 ? 0 : (size_t)length;
+    return length < 0 ? -1 : 0;
 }
 
 void read_input(Input *input, const char *path, size_t most) {
@@ -44,10 +57,10 @@ void read_input(Input *input, const char *path, size_t most) {
 /* A log, its records and its index begin with one name. */
 void demand_no_log(const char *path) {
     static const char name[] = "cinchcleat ";
-    Input start;
+    uint8_t start[sizeof name - 1];
     struct stat about;
-    if (stat(path, &about) != 0 || !S_ISREG(about.st_mode) || try_input(&start, path, sizeof name - 1) != 0) return;
-    if (start.length == sizeof name - 1 && memcmp(start.bytes, name, start.length) == 0) fail("%s is a log, or belongs to one, and is not written over", path);
+    if (stat(path, &about) != 0 || !S_ISREG(about.st_mode) || try_bytes(path, start, sizeof start) != (ssize_t)sizeof start) return;
+    if (memcmp(start, name, sizeof start) == 0) fail("%s is a log, or belongs to one, and is not written over", path);
 }
 
 /* ---- a folder */

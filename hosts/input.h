@@ -3,6 +3,7 @@
 #define INPUT_H
 #include <stddef.h>
 #include <stdint.h>
+#include <sys/types.h>
 
 /* One byte more than the longest is read: what is longer gets the same number from the library. */
 enum { LONGEST_RECORD = 16384, LONGEST_LETTER = 20 + LONGEST_RECORD + 32 * 32 };
@@ -15,6 +16,12 @@ typedef struct {
 /* A file, or standard input where the path is NULL, up to so many bytes. The first fails, with words; the second returns 0, or -1 with errno. */
 void read_input(Input *input, const char *path, size_t most);
 int try_input(Input *input, const char *path, size_t most);
+
+/* The same into bytes of the caller's own, and nowhere else: how many came, or -1 with errno. */
+ssize_t try_bytes(const char *path, uint8_t *bytes, size_t most);
+
+/* Standard input is one thing: where it was the key, it is wrong use to read a record, a letter or a stream from it. */
+void take_standard_input(void);
 
 /* The paths of a folder's files in the order of their names, as the bytes of the names order them. */
 typedef struct {

@@ -13,7 +13,7 @@ to=${DESTDIR-}$prefix_given
 version=$(cat "$top/VERSION")
 built=$top/target/hosts/keeper
 [ "$machine" = x86_64 ] || built=$built.x86_64
-for file in "$built" "$top/target/bin/panel" "$top/target/staticlib/libkeeper.a" "$top/target/run/ld-linux-x86-64.so.2"; do
+for file in "$built" "$top/target/bin/panel" "$top/target/bin/keyed_panel" "$top/target/staticlib/libkeeper.a" "$top/target/run/ld-linux-x86-64.so.2"; do
     [ -f "$file" ] || die "there is no $file: run make first"
 done
 
@@ -43,12 +43,12 @@ else
         printf 'here=$(readlink -f -- "$0")\nhome=${here%%/*/*}/lib/cinchcleat\nexec "$home/qemu-x86_64" "$home/keeper.x86_64" "$@"\n'
     } | put_script bin/keeper
 fi
-put 755 "$top/target/bin/panel" lib/cinchcleat/panel
+for name in panel keyed_panel; do put 755 "$top/target/bin/$name" "lib/cinchcleat/$name"; done
 for file in streams runs panel; do put 644 "$top/shell/$file.sh" "lib/cinchcleat/$file.sh"; done
 {
     printf '#!/bin/sh\n# panel: the verdict number on standard input; panel(1) has the rest\nset -eu\n'
     # shellcheck disable=SC2016
-    printf 'here=$(readlink -f -- "$0")\nrun=${here%%/*/*}/lib/cinchcleat\nprogram=$run/panel\nversion=%s\n' "$version"
+    printf 'here=$(readlink -f -- "$0")\nrun=${here%%/*/*}/lib/cinchcleat\nbuild() { program=$run/$1; }\nversion=%s\n' "$version"
     # shellcheck disable=SC2016
     printf '. "$run/streams.sh"\n. "$run/runs.sh"\n. "$run/panel.sh"\npanel "$@"\n'
 } | put_script bin/panel

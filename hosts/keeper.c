@@ -3,6 +3,7 @@
 #include <string.h>
 #include "answer.h"
 #include "commands.h"
+#include "key.h"
 #include "options.h"
 #include "say.h"
 #include "start.h"
@@ -37,6 +38,8 @@ static const char usage[] =
     "keeper repair LOG COPY                 mends a damaged log, after it is copied to COPY\n"
     "\n"
     "root, letter and find take --size N: the log as it was at that size. Every command takes --json: one object, as keeper(1) has it.\n"
+    "All that work on a log or a letter take --key FILE, of exactly 32 bytes, - for standard input: the log is keyed, from its first append on.\n"
+    "info tells of a keyed log without the key too.\n"
     "LOG is a file, made by the first append. Files and folders are appended whole or not at all; of a stream all is kept\n"
     "that came in whole. Exit status: 0 done; 1 refused, with the number of the rules; 2 wrong use, or something failed;\n"
     "3 another program appends to the log.\n";
@@ -59,14 +62,14 @@ static const struct {
     const char *word, *takes;
     int (*run)(const Asked *asked);
 } commands[] = {
-    {"append", "--stream --folder --acknowledge --keep-records --wait", append},
-    {"root", "--size --bytes", root},
-    {"info", "", info},
-    {"letter", "--size --record", write_letter},
-    {"check", "--show --record --records-to --page", check},
-    {"find", "--size", find},
-    {"verify", "--records", verify},
-    {"repair", "--wait", repair},
+    {"append", "--stream --folder --acknowledge --keep-records --wait --key", append},
+    {"root", "--size --bytes --key", root},
+    {"info", "--key", info},
+    {"letter", "--size --record --key", write_letter},
+    {"check", "--show --record --records-to --page --key", check},
+    {"find", "--size --key", find},
+    {"verify", "--records --key", verify},
+    {"repair", "--wait --key", repair},
     {"help", "", help},
     {"--help", "", help},
     {"-h", "", help},
@@ -80,7 +83,11 @@ int main(int count, char **words) {
         if (strcmp(words[1], commands[i].word) != 0) continue;
         Asked asked = {.command = commands[i].word + strspn(commands[i].word, "-")};
         take_options(&asked, commands[i].takes, count - 2, words + 2);
-        return answer_end(asked.help ? help(&asked) : commands[i].run(&asked));
+        if (asked.help) return answer_end(help(&asked));
+        int status = take_key(asked.key);
+        if (status == DONE) status = commands[i].run(&asked);
+        forget_key();
+        return answer_end(status);
     }
     if (count > 1) wrong_use("there is no command %s", words[1]);
     fprintf(stderr, "%s", usage);

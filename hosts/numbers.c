@@ -17,7 +17,7 @@ static const Words words[] = {
     [KEEPER_OTHER_SIZE] = {"the letter is for a log of another size",
                            "Do not accept it: ask for a letter for the size that was noted."},
     [KEEPER_OTHER_ROOT] = {"the root worked out from the letter is another one",
-                           "Do not accept it: this record was not logged at this index, or size and root are another log's."},
+                           "Do not accept it: this record was not logged at this index, or size and root, or the key, are another log's."},
     [KEEPER_EMPTY_LOG] = {"the log is empty and has no root", "Append a record first."},
     [KEEPER_NOT_A_NODE] = {"the stored node has an unknown flag or a wrong length", "The stored node is damaged: take its copy."},
     [KEEPER_NOT_A_DIGEST] = {"the trusted root is not of 32 bytes", "Give the root as 64 hexadecimal digits."},
@@ -26,6 +26,7 @@ static const Words words[] = {
     [KEEPER_DAMAGED_NODES] = {"a node above the record is not the digest of the two nodes below it",
                             "The log file is damaged: keeper verify looks further."},
     [KEEPER_TOO_MANY_ITEMS] = {"the letter would need more than 32 items", "No log within the limits needs so many: report it."},
+    [KEEPER_NOT_A_KEY] = {"the key is not of 32 bytes", "Name the file that has the league's key: 32 bytes and nothing else, not even a line end."},
 };
 
 static const Words unknown = {"a number that this host does not know", "Host and library are of different versions: build both."};

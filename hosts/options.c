@@ -29,7 +29,7 @@ static const Option options[] = {
     FLAG("--json", json), FLAG("--help", help), FLAG("-h", help), FLAG("--bytes", bytes), FLAG("--stream", stream),
     FLAG("--acknowledge", acknowledge), FLAG("--keep-records", keep_records), FLAG("--show", show), FLAG("--records", records),
     VALUE("--folder", folder), VALUE("--size", size), VALUE("--record", record), VALUE("--records-to", records_to), VALUE("--page", page),
-    VALUE("--wait", wait),
+    VALUE("--wait", wait), VALUE("--key", key),
 };
 
 static const Option *option_named(const char *word, size_t length) {
@@ -57,8 +57,10 @@ static int take_option(Asked *asked, const char *takes, int left, char **words) 
         *(int *)(void *)((char *)asked + option->flag) = 1;
         return 1;
     }
+    const char **value = (const char **)(void *)((char *)asked + option->value);
     if (words[0][length] == 0 && left < 2) wrong_use("a word is missing behind %s", option->name);
-    *(const char **)(void *)((char *)asked + option->value) = words[0][length] ? words[0] + length + 1 : words[1];
+    if (*value) wrong_use("%s is given twice", option->name);
+    *value = words[0][length] ? words[0] + length + 1 : words[1];
     return words[0][length] ? 1 : 2;
 }
 

@@ -8,7 +8,7 @@
 typedef struct {
     const char *command;
     int json, help, bytes, stream, acknowledge, keep_records, show, records;
-    const char *folder, *size, *record, *records_to, *page, *wait;
+    const char *folder, *size, *record, *records_to, *page, *wait, *key;
     char **words; /* what is no option */
     int count;
 } Asked;

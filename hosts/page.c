@@ -68,7 +68,9 @@ static void put_noted(FILE *out, const Verdict *verdict) {
     uint32_t number = keeper_leaf_count(verdict->size, &leaves);
     fprintf(out, "<section>\n<h2>What was noted</h2>\n<table>\n<tr><th>size</th><td>%" PRIu64, verdict->size);
     if (number == KEEPER_DONE) fprintf(out, ", which is a log of %" PRIu64 " records", leaves);
-    fprintf(out, "</td></tr>\n<tr><th>root</th><td><code id=\"noted\">%s</code></td></tr>\n</table>\n</section>\n", verdict->root);
+    fprintf(out, "</td></tr>\n<tr><th>root</th><td><code id=\"noted\">%s</code></td></tr>\n", verdict->root);
+    if (verdict->keyed) fputs("<tr><th>key</th><td id=\"key\">given, and not shown</td></tr>\n", out);
+    fputs("</table>\n</section>\n", out);
 }
 
 static void put_contents(FILE *out, const Verdict *verdict) {
@@ -137,13 +139,16 @@ static void put_meaning(FILE *out, const Verdict *verdict) {
         return;
     }
     fputs("<section>\n<h2>What this proves</h2>\n<p>That this record, byte for byte, was logged at this index of the log that had the noted size and root. "
-          "The one exception: somebody may have found two different byte strings with one BLAKE3 digest, which nobody is known to have done; then "
+          "The one exception: somebody may have found two different byte strings with one BLAKE3 digest", out);
+    fputs(verdict->keyed ? " under the key" : "", out);
+    fputs(", which nobody is known to have done; then "
           "<code>keeper find</code>, given the log, hands over those two strings.</p>\n<h2>What it does not prove</h2>\n<ul>\n"
           "<li>That the call was right: it shows what was logged, not where the ball was.</li>\n"
           "<li>Who wrote the log: that the noted size and root are those of the match must be known from elsewhere.</li>\n"
           "<li>That the log was complete, or kept in real time.</li>\n</ul>\n"
           "<p>The check itself is proved; this page and its drawing are made beside it, by a program that is not. Who doubts it checks the letter again, with "
-          "<code>keeper check</code> or <code>panel</code>.</p>\n</section>\n", out);
+          "<code>keeper check</code> or <code>panel</code>", out);
+    fputs(verdict->keyed ? " and the same key.</p>\n</section>\n" : ".</p>\n</section>\n", out);
 }
 
 int page_for_hearing(const char *path, const Verdict *verdict) {

@@ -3,10 +3,11 @@
 #define PAGE_H
 #include "view.h"
 
-/* What was checked: the size and root that were noted, and the library's number. */
+/* What was checked: the size and root that were noted, whether a key was given with them, and the library's number. */
 typedef struct {
     uint64_t size;
     const char *root; /* as it was given */
+    int keyed;
     uint32_t number;
     const View *view; /* NULL for what has not even the fields of a letter */
 } Verdict;

@@ -1,7 +1,7 @@
 /* The records beside a log, where they were asked for: the bytes in LOG.records, and in LOG.index where each ends.
 
-   Each file begins with a page: a name (16 bytes), the index of the first record that is kept there (8, big-endian) and the digest of those 24
-   bytes. Behind it LOG.records has the records' bytes one after the other, and LOG.index for each record 8 bytes, big-endian: where it ends in the
+   Each file begins with a page: a name (16 bytes), the index of the first record that is kept there (8, big-endian) and the plain digest of those 24
+   bytes, whatever the log's mode. Behind it LOG.records has the records' bytes one after the other, and LOG.index for each record 8 bytes, big-endian: where it ends in the
    other. How many there are, the log's own size says: both files are on disk before a size is that speaks of them, and what is behind it means
    nothing. So a crash leaves the records that the log has. That a record is the one that was logged, its leaf shows. */
 #include <errno.h>
@@ -12,6 +12,7 @@
 #include <unistd.h>
 #include "fresh.h"
 #include "keeper.h"
+#include "key.h"
 #include "records.h"
 #include "say.h"
 
@@ -40,7 +41,7 @@ static void make_file(Mapped *mapped, int *made, const char *path, const char *n
     uint8_t head[HEAD] = {0};
     memcpy(head, name, NAMED);
     put_at(head + NAMED, first);
-    keeper_digest(head, SEALED, head + SEALED, DIGEST);
+    keeper_digest(&plain, head, SEALED, head + SEALED, DIGEST);
     *mapped = (Mapped){.path = path, .file = fresh_file(path, head, HEAD)};
     if (mapped->file < 0) fail("cannot make %s: %s", path, errno == EEXIST ? "another file is there" : strerror(errno));
     *made = 1;
@@ -59,7 +60,7 @@ static int open_file(const Records *records, Mapped *mapped, const char *path) {
 
 static uint64_t first_in(const Mapped *mapped, const char *name) {
     uint8_t seal[DIGEST];
-    keeper_digest(mapped->bytes, SEALED, seal, DIGEST);
+    keeper_digest(&plain, mapped->bytes, SEALED, seal, DIGEST);
     if (memcmp(mapped->bytes, name, NAMED) != 0 || memcmp(mapped->bytes + SEALED, seal, DIGEST) != 0)
         fail("%s is no file of records, or its first bytes are damaged: take its copy", mapped->path);
     return number_at(mapped->bytes + NAMED);
@@ -95,7 +96,7 @@ static int index_alone(const Records *records, uint64_t leaves) {
     int file = open(records->ends_path, O_RDONLY | O_NOFOLLOW | O_NONBLOCK | O_CLOEXEC);
     if (file < 0) return 0;
     int ours = pread(file, head, sizeof head, 0) == (ssize_t)sizeof head && memcmp(head, ends_name, NAMED) == 0;
-    if (ours) keeper_digest(head, SEALED, seal, DIGEST);
+    if (ours) keeper_digest(&plain, head, SEALED, seal, DIGEST);
     int used = ours && (number_at(head + NAMED) < leaves || memcmp(head + SEALED, seal, DIGEST) != 0);
     if (ours && !used && records->writing) fresh_remove(records->ends_path, file);
     close(file);

@@ -13,6 +13,7 @@
 #include "commands.h"
 #include "input.h"
 #include "keeper.h"
+#include "key.h"
 #include "say.h"
 #include "store.h"
 
@@ -23,12 +24,13 @@ static Input record;
 /* Leaves that are not their record's digest get it. */
 static void mend_leaves(const Store *log, uint8_t *nodes, uint64_t leaves) {
     for (uint64_t index = log->records.first; log->records.open && index < leaves; index++)
-        if (records_read(&log->records, index, &record) == 0) keeper_digest(record.bytes, record.length, nodes + NODE * place_of(index, 0), NODE);
+        if (records_read(&log->records, index, &record) == 0)
+            keeper_digest(log->mode, record.bytes, record.length, nodes + NODE * place_of(index, 0), NODE);
 }
 
-static int has_root(const uint8_t *nodes, const State *state) {
+static int has_root(const keeper_mode *mode, const uint8_t *nodes, const State *state) {
     uint8_t root[NODE] = {0};
-    if (state->size > 0 && keeper_root(state->size, nodes, NODE * state->size, root, NODE) != KEEPER_DONE) return 0;
+    if (state->size > 0 && keeper_root(mode, state->size, nodes, NODE * state->size, root, NODE) != KEEPER_DONE) return 0;
     return memcmp(root, state->root, NODE) == 0;
 }
 
@@ -41,8 +43,8 @@ static uint8_t *mended_nodes(const Store *log, uint64_t leaves) {
         if (!nodes) fail("no memory for %zu bytes of nodes", bytes);
         memcpy(nodes, store_nodes(log), bytes);
         if (with_records) mend_leaves(log, nodes, leaves);
-        rebuild(nodes, leaves);
-        if (has_root(nodes, &log->newest)) return nodes;
+        rebuild(log->mode, nodes, leaves);
+        if (has_root(log->mode, nodes, &log->newest)) return nodes;
         free(nodes);
     }
     return NULL;
@@ -106,13 +108,14 @@ int repair(const Asked *asked) {
     store_open(&log, asked->words[0], TO_REPAIR, seconds_in(asked->wait));
     keeper_leaf_count(log.newest.size, &leaves);
     keeper_leaf_count(log.state.size, &older);
-    if (log.found == SOUND && !wrong_among(store_nodes(&log), 0, leaves, &wrong)) {
+    if (log.found == SOUND && !wrong_among(log.mode, store_nodes(&log), 0, leaves, &wrong)) {
         line("nothing is to be repaired: the log is whole, with %" PRIu64 " records", leaves);
         put_number("records", leaves);
         return DONE;
     }
     records_open(&log.records, log.file.path, log.found == OLDER_STATE || log.found == NO_STATE ? leaves : older, 0, 0);
     uint8_t *nodes = mended_nodes(&log, leaves);
+    forget_key();
     if (!nodes && log.found != OLDER_STATE && log.newest.size > 0)
         fail("%s cannot be repaired: its nodes do not have the root that was kept. Nothing was changed; take its copy", log.file.path);
     keep_copy(&log, asked->words[1]);

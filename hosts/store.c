@@ -14,7 +14,8 @@
    So at every moment there is a whole page whose nodes are on disk, and no crash leaves a page without a whole copy or a size without its nodes.
    Where a log is found so, it was cut or changed, or its disk lost what it had reported as written: it is read in the older state, which is said, and
    not appended to, since the next append would be written over records that were acknowledged.
-   Nodes below a size never change, and so a reader needs no lock; a writer keeps other writers out by one. */
+   Nodes below a size never change, and so a reader needs no lock; a writer keeps other writers out by one.
+   A log is in one mode, plain or keyed, from the moment it is made: both pages say so, and one in another mode is not opened. */
 #include <errno.h>
 #include <fcntl.h>
 #include <inttypes.h>
@@ -27,6 +28,7 @@
 #include <unistd.h>
 #include "fresh.h"
 #include "keeper.h"
+#include "key.h"
 #include "progress.h"
 #include "say.h"
 #include "start.h"
@@ -55,8 +57,10 @@ static void nap(long milliseconds) {
 
 int nodes_there(const Store *store, const State *state) {
     uint8_t root[NODE] = {0};
+    uint64_t leaves;
     if (store_room(store) / NODE < state->size) return 0;
-    if (state->size > 0 && keeper_root(state->size, store_nodes(store), store_room(store), root, NODE) != KEEPER_DONE) return 0;
+    if (store->is_shut) return keeper_leaf_count(state->size, &leaves) == KEEPER_DONE;
+    if (state->size > 0 && keeper_root(store->mode, state->size, store_nodes(store), store_room(store), root, NODE) != KEEPER_DONE) return 0;
     return memcmp(root, state->root, NODE) == 0;
 }
 
@@ -65,7 +69,7 @@ void what_is_wrong(const Store *store, const State *state, char *words, size_t r
     uint64_t leaves = leaves_at(state->size), held = store_room(store) / NODE;
     if (held < state->size)
         snprintf(words, room, "the file was cut: it has room for %" PRIu64 " nodes of %" PRIu64, held, state->size);
-    else if (wrong_among(store_nodes(store), 0, leaves, &wrong))
+    else if (!store->is_shut && wrong_among(store->mode, store_nodes(store), 0, leaves, &wrong))
         snprintf(words, room, "the node at position %" PRIu64 ", byte %" PRIu64 " of the file, is not the digest of the nodes at %" PRIu64 " and %" PRIu64,
                  wrong.position, SIZES + NODE * wrong.position, wrong.left, wrong.right);
     else if (!nodes_there(store, state))
@@ -90,6 +94,19 @@ static void take_state(Store *store, const Sizes *sizes) {
     store->size = store->state.size;
 }
 
+/* The sizes, of a log in the mode that was taken. One in another mode is not read; without a key it can be told that it is keyed. */
+static void take_sizes(Store *store, const uint8_t pages[SIZES], Sizes *sizes) {
+    const char *path = store->file.path;
+    read_sizes(pages, &store->mark, sizes);
+    if (sizes->whole[0] + sizes->whole[1] > 0 || sizes->strange == 0) return;
+    if (!sizes->stranger.keyed) fail("%s is not keyed: leave --key out", path);
+    if (store->mark.keyed) fail("%s is keyed by another key: name its own by --key FILE", path);
+    if (store->purpose != TO_TELL) fail("%s is keyed: name its key by --key FILE", path);
+    store->mark = sizes->stranger;
+    store->is_shut = 1;
+    read_sizes(pages, &store->mark, sizes);
+}
+
 /* Reads the file's state: the sizes are copied first, since a writer may be at them. */
 static void look(Store *store, uint8_t pages[SIZES]) {
     Sizes sizes;
@@ -98,7 +115,7 @@ static void look(Store *store, uint8_t pages[SIZES]) {
         fail("cannot map %s: %s", store->file.path, strerror(errno));
     }
     memcpy(pages, store->file.bytes, SIZES);
-    read_sizes(pages, &sizes);
+    take_sizes(store, pages, &sizes);
     if (sizes.whole[0] + sizes.whole[1] > 0) take_state(store, &sizes);
     else store->found = NO_STATE, store->state = store->newest = (State){0};
 }
@@ -117,7 +134,7 @@ static void look_well(Store *store) {
         same = length == store->file.length && memcmp(before, pages, SIZES) == 0 ? same + 1 : 0;
     }
     Sizes sizes;
-    read_sizes(pages, &sizes);
+    read_sizes(pages, &store->mark, &sizes);
     if (sizes.whole[0] + sizes.whole[1] == 0) fail("%s is not a log, or its first bytes are damaged: take its copy", store->file.path);
 }
 
@@ -127,7 +144,8 @@ static void say_what_was_found(const Store *store) {
     char words[512];
     const char *path = store->file.path;
     unsigned long long had = leaves_at(store->newest.size), has = leaves_at(store->state.size);
-    if (store->found == COPY_DAMAGED)
+    if (store->found == COPY_DAMAGED && store->is_shut) note("%s: a copy of its size is damaged, by a crash in an append or later; another is whole", path);
+    else if (store->found == COPY_DAMAGED)
         note("%s: a copy of its size is damaged, by a crash in an append or later; another is whole, and all %llu records are there", path, has);
     if (store->found == SOUND || store->found == COPY_DAMAGED) return;
     what_is_wrong(store, &store->newest, words, sizeof words);
@@ -144,7 +162,7 @@ static void demand_whole(const Store *store) {
     Wrong wrong;
     uint64_t leaves = leaves_at(store->newest.size), first = leaves > LOOKED_AT ? leaves - LOOKED_AT : 0;
     int whole = store->found == SOUND || store->found == COPY_DAMAGED;
-    if (whole && !wrong_among(store_nodes(store), first, leaves, &wrong)) return;
+    if (whole && !wrong_among(store->mode, store_nodes(store), first, leaves, &wrong)) return;
     what_is_wrong(store, &store->newest, words, sizeof words);
     fail("%s was cut or changed: %s. It has %" PRIu64 " records, and nothing was appended, so that none is written over.\n"
          "  keeper verify %s looks further; keeper repair %s COPY keeps a copy and mends what can be mended.",
@@ -161,8 +179,8 @@ static void take_back(void) {
 static int make(Store *store) {
     uint8_t pages[SIZES];
     State empty = {0};
-    fill_page(&empty, pages);
-    fill_page(&empty, pages + SIZE_PAGE);
+    fill_page(&empty, &store->mark, pages);
+    fill_page(&empty, &store->mark, pages + SIZE_PAGE);
     int file = fresh_file(store->file.path, pages, SIZES);
     if (file < 0) return -1;
     store->made = 1;
@@ -188,13 +206,13 @@ static void demand_no_link(const char *path) {
 }
 
 /* Opens the file, and to write locks it; where its name has gone to another file before the lock was there, once more. */
-static void open_file(Store *store, Purpose purpose, double wait) {
+static void open_file(Store *store, double wait) {
     const char *path = store->file.path;
-    int writing = purpose == TO_APPEND || purpose == TO_REPAIR;
+    int writing = store->purpose == TO_APPEND || store->purpose == TO_REPAIR;
     struct stat about;
     for (;;) {
         int file = open(path, (writing ? O_RDWR : O_RDONLY) | O_NONBLOCK | O_CLOEXEC);
-        if (file < 0 && errno == ENOENT && purpose == TO_APPEND) {
+        if (file < 0 && errno == ENOENT && store->purpose == TO_APPEND) {
             demand_no_link(path);
             file = make(store);
             if (file < 0 && errno == EEXIST) continue;
@@ -216,16 +234,17 @@ static void map_to_write(Store *store) {
 }
 
 void store_open(Store *store, const char *path, Purpose purpose, double wait) {
-    *store = (Store){.file = {.path = path, .file = -1}};
+    *store = (Store){.mode = mode_taken(), .purpose = purpose, .file = {.path = path, .file = -1}};
+    mark_of(store->mode, &store->mark);
     store->records.bytes.file = store->records.ends.file = -1;
     if (purpose == TO_APPEND) {
         if (!unfinished) atexit(take_back);
         unfinished = store;
     }
-    open_file(store, purpose, wait);
+    open_file(store, wait);
     look_well(store);
     if (purpose == TO_APPEND) demand_whole(store);
-    if (purpose == TO_APPEND || purpose == TO_READ) say_what_was_found(store);
+    if (purpose == TO_APPEND || purpose == TO_READ || purpose == TO_TELL) say_what_was_found(store);
     if (purpose == TO_APPEND) map_to_write(store);
 }
 
@@ -247,7 +266,7 @@ uint32_t store_append(Store *store, const uint8_t *record, size_t length) {
     uint64_t hashes;
     uint32_t number;
     if (length <= LONGEST_RECORD && records_room(&store->records, length) != 0) return STORE_FULL;
-    while ((number = keeper_append(store->size, record, length, store_nodes(store), store_room(store), &store->size, &hashes)) ==
+    while ((number = keeper_append(store->mode, store->size, record, length, store_nodes(store), store_room(store), &store->size, &hashes)) ==
            KEEPER_NODES_TOO_SHORT)
         if (map_longer(&store->file, store->file.length + 1) != 0) return STORE_FULL;
     if (number == KEEPER_DONE) records_add(&store->records, record, length);
@@ -256,7 +275,7 @@ uint32_t store_append(Store *store, const uint8_t *record, size_t length) {
 
 static int write_page(Store *store, const State *state, int which) {
     uint8_t page[SIZE_PAGE];
-    fill_page(state, page);
+    fill_page(state, &store->mark, page);
     ssize_t written = pwrite(store->file.file, page, SIZE_PAGE, which * SIZE_PAGE);
     if (written >= 0 && written != SIZE_PAGE) errno = ENOSPC;
     return written == SIZE_PAGE && fdatasync(store->file.file) == 0 ? 0 : -1;
@@ -265,7 +284,7 @@ static int write_page(Store *store, const State *state, int which) {
 int store_keep(Store *store) {
     State next = {.size = store->size};
     if (next.size == store->state.size) return 0;
-    if (keeper_root(next.size, store_nodes(store), store_room(store), next.root, NODE) != KEEPER_DONE) {
+    if (keeper_root(store->mode, next.size, store_nodes(store), store_room(store), next.root, NODE) != KEEPER_DONE) {
         errno = EIO;
         return -1;
     }

@@ -11,7 +11,16 @@
    older state whole; with no state whole. */
 typedef enum { SOUND, COPY_DAMAGED, PAGE_LOST, OLDER_STATE, NO_STATE } Found;
 
+/* To read: the log as it was last kept, or its older state, which is said. To append: the newest state or none, made where there is no log, and no
+   other writer until store_close; a log that is not whole is not opened. To look: as it is, whatever it is, without other writers where wanted. To
+   tell: as to read, and a keyed log without its key too. */
+typedef enum { TO_READ, TO_APPEND, TO_LOOK, TO_REPAIR, TO_TELL } Purpose;
+
 typedef struct {
+    Purpose purpose;
+    const keeper_mode *mode;
+    Mark mark;           /* what the pages have of the mode */
+    int is_shut;         /* keyed, and there is no key: size and root are taken as they were kept */
     Mapped file;
     Records records;
     Found found;
@@ -22,9 +31,7 @@ typedef struct {
     int made;            /* by this program, with nothing kept yet */
 } Store;
 
-/* To read: the log as it was last kept, or its older state, which is said. To append: the newest state or none, made where there is no log, and no
-   other writer until store_close; a log that is not whole is not opened. To look: as it is, whatever it is, without other writers where wanted. */
-typedef enum { TO_READ, TO_APPEND, TO_LOOK, TO_REPAIR } Purpose;
+/* Fails, with words, where the log is in another mode than the one that was taken (key.h). */
 void store_open(Store *store, const char *path, Purpose purpose, double wait);
 
 /* The nodes, and how many bytes of them there are. */
@@ -32,7 +39,7 @@ uint8_t *store_nodes(const Store *store);
 size_t store_room(const Store *store);
 uint64_t store_leaves(const Store *store);
 
-/* Whether the nodes of a state are there: room for all, and its root. What is wrong with them, in words. */
+/* Whether the nodes of a state are there: room for all, and its root, where that can be worked out. What is wrong with them, in words. */
 int nodes_there(const Store *store, const State *state);
 void what_is_wrong(const Store *store, const State *state, char *words, size_t room);
 

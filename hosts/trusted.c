@@ -19,10 +19,10 @@ void fail_damaged(const Store *log, const Wrong *wrong) {
 uint32_t trusted_root(const Store *log, uint64_t size, uint8_t root[NODE]) {
     Wrong wrong;
     uint64_t leaves = 0;
-    uint32_t number = keeper_root(size, store_nodes(log), lent(log), root, NODE);
+    uint32_t number = keeper_root(log->mode, size, store_nodes(log), lent(log), root, NODE);
     if (number != KEEPER_DONE || size == log->size) return number;
     keeper_leaf_count(size, &leaves);
-    if (wrong_above_peaks(store_nodes(log), store_leaves(log), leaves, &wrong)) fail_damaged(log, &wrong);
+    if (wrong_above_peaks(log->mode, store_nodes(log), store_leaves(log), leaves, &wrong)) fail_damaged(log, &wrong);
     return KEEPER_DONE;
 }
 
@@ -30,5 +30,5 @@ void demand_way(const Store *log, uint64_t size, uint64_t index) {
     Wrong wrong;
     uint64_t leaves = 0;
     keeper_leaf_count(size, &leaves);
-    if (wrong_above(store_nodes(log), leaves, index, 0, &wrong)) fail_damaged(log, &wrong);
+    if (wrong_above(log->mode, store_nodes(log), leaves, index, 0, &wrong)) fail_damaged(log, &wrong);
 }

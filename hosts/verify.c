@@ -17,7 +17,7 @@ static int wrong_leaf(const Store *log, uint64_t index) {
     uint8_t digest[NODE];
     if (index < log->records.first) return 0;
     if (records_read(&log->records, index, &record) != 0) return 1;
-    keeper_digest(record.bytes, record.length, digest, NODE);
+    keeper_digest(log->mode, record.bytes, record.length, digest, NODE);
     return memcmp(digest, store_nodes(log) + NODE * place_of(index, 0), NODE) != 0;
 }
 
@@ -27,7 +27,7 @@ static int lowest_wrong(const Store *log, uint64_t leaves, int with_records, Wro
     progress_begin(&progress);
     for (uint64_t from = 0, to; from < leaves; from = to) {
         to = leaves - from > TOGETHER ? from + TOGETHER : leaves;
-        int inner = wrong_among(store_nodes(log), from, to, wrong);
+        int inner = wrong_among(log->mode, store_nodes(log), from, to, wrong);
         for (uint64_t index = from; with_records && index < to; index++) {
             if (!wrong_leaf(log, index) || (inner && place_of(index, 0) > wrong->position)) continue;
             *is_leaf = 1;

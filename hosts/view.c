@@ -27,8 +27,8 @@ static unsigned find_peak(View *view) {
 static const uint8_t *step(View *view, Step next, const uint8_t *so_far) {
     Step *taken = &view->steps[view->items++];
     *taken = next;
-    if (next.given_is_left) digest_of_pair(next.given, so_far, taken->digest);
-    else digest_of_pair(so_far, next.given, taken->digest);
+    if (next.given_is_left) digest_of_pair(view->mode, next.given, so_far, taken->digest);
+    else digest_of_pair(view->mode, so_far, next.given, taken->digest);
     return taken->digest;
 }
 
@@ -48,8 +48,9 @@ static void take_steps(View *view, const uint8_t *items, unsigned lefts, int rig
     }
 }
 
-int view_letter(const uint8_t *letter, size_t length, View *view) {
+int view_letter(const keeper_mode *mode, const uint8_t *letter, size_t length, View *view) {
     memset(view, 0, sizeof *view);
+    view->mode = mode;
     if (length < LETTER_HEAD) return -1;
     view->size = number_at(letter, 8);
     view->index = number_at(letter + 8, 8);
@@ -59,7 +60,7 @@ int view_letter(const uint8_t *letter, size_t length, View *view) {
     int rights = (view->leaves & (((uint64_t)1 << view->height) - 1)) != 0;
     if (length != LETTER_HEAD + view->length + NODE * (lefts + view->height + (unsigned)rights)) return 0;
     view->record = letter + LETTER_HEAD;
-    keeper_digest(view->record, view->length, view->leaf, NODE);
+    keeper_digest(mode, view->record, view->length, view->leaf, NODE);
     take_steps(view, view->record + view->length, lefts, rights);
     return 0;
 }

@@ -19,6 +19,7 @@ typedef struct {
 #define NO_PLACE UINT64_MAX
 
 typedef struct {
+    const keeper_mode *mode;
     uint64_t size, index;   /* as the letter names them */
     size_t length;          /* of the record, as it is stated */
     const uint8_t *record;  /* NULL where the letter is not of its exact length: then there are no steps */
@@ -30,7 +31,7 @@ typedef struct {
 } View;
 
 /* 0, or -1 for what has not even the fields of a letter. */
-int view_letter(const uint8_t *letter, size_t length, View *view);
+int view_letter(const keeper_mode *mode, const uint8_t *letter, size_t length, View *view);
 
 /* The root that was worked out. */
 const uint8_t *viewed_root(const View *view);

@@ -1,5 +1,5 @@
 # The panel's command, in the repository and where it is installed: the verdict number on standard input, written or not done.
-# Wants with_program of shell/runs.sh, and version.
+# Wants with_program of shell/runs.sh, build NAME, behind which the program of that name is the one that is run, and version.
 # shellcheck shell=sh disable=SC2154
 
 panel_usage() {
@@ -7,9 +7,43 @@ panel_usage() {
 panel <NOTED-AND-LETTER
     the verdict number on standard input, which has the trusted size (8 bytes, big-endian), the root (32) and one letter. 0: accepted.
     keeper root LOG --bytes >NOTED; cat NOTED LETTER | panel
+panel --key FILE <NOTED-AND-LETTER
+    the same for a keyed log, by its key: a file of exactly 32 bytes, else the number is 24.
 panel -h, panel --version
 Exit status: 0 with a number, whatever it is; 2 where there is none, or it could not be written.
 END
+}
+
+# keyed_input FILE: to stream 8 how many bytes the key file has, 33 for more; then, where these are 32, the key and behind it standard input, as the program
+# for keyed logs reads them. The file is read once. No program has the key as an argument, since printf is the shell's own; no other file gets it; and the
+# shell that has seen it is gone when the first byte behind it is read.
+keyed_input() {
+    # shellcheck disable=SC2046
+    set -- $(head -c 33 <"$1" | od -An -v -to1)
+    echo "$# bytes" >&8
+    [ $# = 32 ] || return 0
+    printf '%b' "$(printf '\\0%s' "$@")"
+    exec cat
+}
+
+# keyed_verdict FILE: the verdict by the program for keyed logs, which is 24 where the file has not 32 bytes
+keyed_verdict() {
+    { [ -r "$1" ] && [ ! -d "$1" ]; } || { echo "panel: cannot read the key, $1" >&2; return 2; }
+    case $(command -v printf) in printf) ;; *) echo "panel: this shell has no printf of its own, and so cannot hand on a key" >&2; return 2 ;; esac
+    build keyed_panel
+    verdict=$({ keyed_input "$1" | with_program 8>&-; } 8>&1) || { echo "panel: the program could not be run" >&2; return 2; }
+    case $verdict in
+    '32 bytes'*) verdict=${verdict#32 bytes?} ;;
+    *)
+        echo "panel: key refused, number 24: the key is not of 32 bytes. Name the file that has the league's key, and nothing else, not even a line end." >&2
+        verdict=24
+        ;;
+    esac
+}
+
+plain_verdict() {
+    build panel
+    verdict=$(with_program) || { echo "panel: the program could not be run" >&2; return 2; }
 }
 
 # panel WORD..: everything the command does
@@ -18,8 +52,13 @@ panel() {
     -h | --help) panel_usage; return ;;
     --version) echo "panel (Cinchcleat) $version"; return ;;
     esac
+    key=
+    case ${1-} in
+    --key=?*) key=${1#--key=}; shift ;;
+    --key) [ -z "${2-}" ] || { key=$2; shift 2; } ;;
+    esac
     [ $# = 0 ] || { panel_usage >&2; return 2; }
-    verdict=$(with_program) || { echo "panel: the program could not be run" >&2; return 2; }
+    if [ -n "$key" ]; then keyed_verdict "$key" || return; else plain_verdict || return; fi
     case $verdict in '' | *[!0-9]*) echo "panel: no verdict" >&2; return 2 ;; esac
     # what the shell itself says of a stream that cannot be written is not for a person
     (printf '%s\n' "$verdict") 2>/dev/null || { echo "panel: the verdict could not be written" >&2; return 2; }

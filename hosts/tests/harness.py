@@ -1,8 +1,9 @@
 """What the host's tests share: the program, what the second program says, a folder for each test, and what is asked of the host again and again.
 
 KEEPER is the program; LOSSY the same on a disk that loses what was not synced (lossy.c); CHECKED says that it runs under sanitizers, and then what
-tries scripts and not the host is left out.
+tries scripts and not the host is left out. KEYED says that every log is keyed: the two programs get --key, and what they say is held to the keyed rules.
 """
+import atexit
 import functools
 import json
 import os
@@ -19,39 +20,79 @@ TOP = Path(__file__).resolve().parent.parent.parent
 sys.path.insert(0, str(TOP / "second"))
 from expected.given import run_record  # noqa: E402
 from rules import letters, log, shape  # noqa: E402, F401
+from rules.blake3 import PLAIN, digest, keyed  # noqa: E402
 from rules.log import LONGEST_RECORD, NODE  # noqa: E402, F401
 from rules.shape import nodes_of  # noqa: E402
 
 # what a program that ends has not given back is of no interest, and looking for it takes seconds on some machines
 os.environ.setdefault("ASAN_OPTIONS", "detect_leaks=0")
-KEEPER = os.environ.get("KEEPER", str(TOP / "target" / "hosts" / "keeper"))
-LOSSY = os.environ.get("LOSSY")
 CHECKED = "CHECKED" in os.environ
+KEY = bytes((89 * place + 5) % 256 for place in range(32)) if "KEYED" in os.environ else None
+
+
+def with_key(program):
+    """The program, or where every log is keyed a script that starts it with the key behind its command."""
+    if KEY is None or program is None:
+        return program
+    place = Path(tempfile.mkdtemp())
+    atexit.register(shutil.rmtree, place)
+    (place / "key").write_bytes(KEY)
+    script = place / "keeper"
+    script.write_text(f'#!/bin/sh\nword=$1\nshift\nexec "{program}" "$word" --key "{place}/key" "$@"\n')
+    script.chmod(0o755)
+    return str(script)
+
+
+KEEPER = with_key(os.environ.get("KEEPER", str(TOP / "target" / "hosts" / "keeper")))
+LOSSY = with_key(os.environ.get("LOSSY"))
 NODES = 8192  # where the nodes begin in a log's file
 PAGE = 4096  # where the second page of sizes stands
 COPY = 2048  # where the second copy of a size stands in its page
-SEALED = 88  # how long a copy is
+SEALED = 88 if KEY is None else 120  # how long a copy is
+FEWER = 1 if KEY is None else 4  # what is tried by chance is tried so much less where it is tried once more, with keys
 RECORDS = tuple(run_record(number, length) for number, length in enumerate((0, 1, 31, 200, 64, 1025, 32, 5, 16384, 7, 100, 3)))
 
 
+def digest_by(key):
+    """The second program's digest function: plain, or under a key."""
+    return functools.partial(digest, mode=PLAIN if key is None else keyed(key))
+
+
+def by(key):
+    """How the second program's calls are told of a key."""
+    return {"digest": digest_by(key)}
+
+
 @functools.lru_cache(maxsize=None)
-def said_of_all(records):
+def said_of_all(records, key):
     """What the second program says of a log of these records: size, root, nodes."""
     nodes, size = bytearray(NODE * nodes_of(len(records))), 0
     for record in records:
-        size = log.append(size, record, nodes).size
-    return size, log.root(size, nodes).root if records else b"", bytes(nodes)
+        size = log.append(size, record, nodes, **by(key)).size
+    return size, log.root(size, nodes, **by(key)).root if records else b"", bytes(nodes)
 
 
-def said_of(records):
+def said_of(records, key=KEY):
     """The same for a list."""
-    return said_of_all(tuple(records))
+    return said_of_all(tuple(records), key)
 
 
-def letter_of(records, index):
+def letter_of(records, index, key=KEY):
     """The second program's letter."""
-    size, _, nodes = said_of(records)
-    return letters.letter_of(size, index, records[index], nodes)
+    size, _, nodes = said_of(records, key)
+    return letters.letter_of(size, index, records[index], nodes, **by(key))
+
+
+def number_of(size, top, letter, key=KEY):
+    """The second program's number on a letter."""
+    return letters.check_letter(size, top, letter, **by(key)).number
+
+
+def sealed(size, root, key=KEY):
+    """A copy of a size and root, as the pages of a log have it: name, size, root, for a keyed log the tag, and the plain digest of all that."""
+    name = b"cinchcleat log 1" if key is None else b"cinchcleat keyed"
+    head = name + size.to_bytes(8, "big") + root + (b"" if key is None else digest_by(key)(name))
+    return head + digest(head)
 
 
 def stream_of(records):

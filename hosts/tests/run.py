@@ -1,5 +1,6 @@
 #!/usr/bin/env python3
 """run.py MODULE..: runs the modules of this folder, as many at a time as the machine has processors; a line for each, and what it wrote where it failed.
+Some are run twice, the second time with every log keyed.
 
 Exit status: 0 where every test holds, 1 where one does not.
 """
@@ -11,15 +12,19 @@ import time
 from concurrent.futures import ThreadPoolExecutor
 
 
-def run(module):
+KEYED_TOO = ("test_append", "test_check", "test_crashes", "test_damage", "test_hostile", "test_letters", "test_page", "test_records")
+
+
+def run(module, keyed):
     """One module by itself: whether it holds, how many tests it has and leaves out, and what it wrote."""
     begun = time.monotonic()
-    ran = subprocess.run([sys.executable, "-m", "unittest", "-v", module], stdout=subprocess.PIPE, stderr=subprocess.STDOUT, check=False)
+    settings = {**os.environ, **({"KEYED": "yes"} if keyed else {})}
+    ran = subprocess.run([sys.executable, "-m", "unittest", "-v", module], stdout=subprocess.PIPE, stderr=subprocess.STDOUT, check=False, env=settings)
     said = ran.stdout.decode(errors="replace")
     count = int((re.findall(r"^Ran (\d+) test", said, re.M) or ["0"])[-1])
     skipped = re.findall(r"^.*skipped '(.*)'$", said, re.M)
     holds = ran.returncode == 0 and count > 0
-    line = f"{module}: {count} tests in {time.monotonic() - begun:.0f} s, {'all hold' if holds else 'NOT ALL HOLD'}"
+    line = f"{module}{', keyed' if keyed else ''}: {count} tests in {time.monotonic() - begun:.0f} s, {'all hold' if holds else 'NOT ALL HOLD'}"
     return holds, count, skipped, line + "".join(f"\n  left out: {why}" for why in sorted(set(skipped))) + ("" if holds else "\n" + said)
 
 
@@ -28,7 +33,8 @@ def main():
     begun = time.monotonic()
     with ThreadPoolExecutor(max_workers=min(os.cpu_count() or 1, 4)) as pool:
         results = []
-        for result in pool.map(run, sys.argv[1:]):
+        runs = [(module, keyed) for module in sys.argv[1:] for keyed in (False, True) if not keyed or module in KEYED_TOO]
+        for result in pool.map(lambda each: run(*each), runs):
             results.append(result)
             print(result[3], flush=True)
     wrong = sum(not holds for holds, *_ in results)

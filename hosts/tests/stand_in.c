@@ -4,12 +4,25 @@
 #include "keeper.h"
 
 enum { NODE = 32, BLOCK = 64, CHUNK = 1024, LONGEST = 16384, HEAD = 20 };
-enum { START = 1, END = 2, PARENT = 4, TOP = 8 };
+enum { START = 1, END = 2, PARENT = 4, TOP = 8, KEYED = 16 };
 
 /* ---- BLAKE3 */
 
 static const uint32_t starting[8] = {0x6A09E667, 0xBB67AE85, 0x3C6EF372, 0xA54FF53A, 0x510E527F, 0x9B05688C, 0x1F83D9AB, 0x5BE0CD19};
 static const uint8_t order[16] = {2, 6, 3, 10, 7, 0, 4, 13, 1, 11, 12, 5, 9, 14, 15, 8};
+
+/* The words that chaining begins with, and the flag of every compression. */
+typedef struct {
+    uint32_t words[8], flag;
+} Begin;
+
+static Begin begin_of(const keeper_mode *mode) {
+    Begin begin = {.flag = mode->keyed ? KEYED : 0};
+    memcpy(begin.words, starting, sizeof begin.words);
+    for (int i = 0; mode->keyed && i < 8; i++) begin.words[i] = 0;
+    for (int i = 0; mode->keyed && i < 32; i++) begin.words[i / 4] |= (uint32_t)mode->key[i] << 8 * (i % 4);
+    return begin;
+}
 
 static uint32_t turn(uint32_t word, int by) { return word >> by | word << (32 - by); }
 
@@ -33,14 +46,14 @@ static void compress(uint32_t chain[8], const uint8_t block[BLOCK], uint64_t cou
     for (int i = 0; i < 8; i++) chain[i] = v[i] ^ v[i + 8];
 }
 
-static void hash_chunk(const uint8_t *bytes, size_t length, uint64_t counter, uint32_t top, uint32_t chain[8]) {
-    memcpy(chain, starting, 32);
+static void hash_chunk(const Begin *begin, const uint8_t *bytes, size_t length, uint64_t counter, uint32_t top, uint32_t chain[8]) {
+    memcpy(chain, begin->words, 32);
     for (size_t at = 0; at == 0 || at < length; at += BLOCK) {
         uint8_t block[BLOCK] = {0};
         size_t part = length - at < BLOCK ? length - at : BLOCK;
         if (part > 0) memcpy(block, bytes + at, part);
         uint32_t last = at + BLOCK >= length ? END | top : 0;
-        compress(chain, block, counter, (uint32_t)part, (at == 0 ? START : 0) | last);
+        compress(chain, block, counter, (uint32_t)part, begin->flag | (at == 0 ? START : 0) | last);
     }
 }
 
@@ -48,33 +61,34 @@ static void put_words(const uint32_t chain[8], uint8_t *out) {
     for (int i = 0; i < 32; i++) out[i] = (uint8_t)(chain[i / 4] >> 8 * (i % 4));
 }
 
-static void hash_tree(const uint8_t *bytes, size_t length, uint64_t counter, uint32_t top, uint32_t chain[8]) {
+static void hash_tree(const Begin *begin, const uint8_t *bytes, size_t length, uint64_t counter, uint32_t top, uint32_t chain[8]) {
     uint8_t pair[BLOCK];
     size_t left = CHUNK;
     if (length <= CHUNK) {
-        hash_chunk(bytes, length, counter, top, chain);
+        hash_chunk(begin, bytes, length, counter, top, chain);
         return;
     }
     while (2 * left < length) left *= 2;
-    hash_tree(bytes, left, counter, 0, chain);
+    hash_tree(begin, bytes, left, counter, 0, chain);
     put_words(chain, pair);
-    hash_tree(bytes + left, length - left, counter + left / CHUNK, 0, chain);
+    hash_tree(begin, bytes + left, length - left, counter + left / CHUNK, 0, chain);
     put_words(chain, pair + NODE);
-    memcpy(chain, starting, 32);
-    compress(chain, pair, 0, BLOCK, PARENT | top);
+    memcpy(chain, begin->words, 32);
+    compress(chain, pair, 0, BLOCK, begin->flag | PARENT | top);
 }
 
-static void digest(const uint8_t *bytes, size_t length, uint8_t *out) {
+static void digest(const keeper_mode *mode, const uint8_t *bytes, size_t length, uint8_t *out) {
     uint32_t chain[8];
-    hash_tree(bytes, length, 0, TOP, chain);
+    Begin begin = begin_of(mode);
+    hash_tree(&begin, bytes, length, 0, TOP, chain);
     put_words(chain, out);
 }
 
-static void digest_pair(const uint8_t *left, const uint8_t *right, uint8_t *out) {
+static void digest_pair(const keeper_mode *mode, const uint8_t *left, const uint8_t *right, uint8_t *out) {
     uint8_t pair[BLOCK];
     memcpy(pair, left, NODE);
     memcpy(pair + NODE, right, NODE);
-    digest(pair, BLOCK, out);
+    digest(mode, pair, BLOCK, out);
 }
 
 /* ---- the calls */
@@ -82,10 +96,17 @@ static void digest_pair(const uint8_t *left, const uint8_t *right, uint8_t *out)
 static const uint64_t most = (uint64_t)1 << 32;
 static uint64_t size_of(uint64_t leaves) { return 2 * leaves - (uint64_t)__builtin_popcountll(leaves); }
 
-uint32_t keeper_digest(const uint8_t *bytes, size_t len, uint8_t *out, size_t out_len) {
+uint32_t keeper_mode_keyed(const uint8_t *key, size_t key_len, keeper_mode *mode) {
+    if (key_len != sizeof mode->key) return KEEPER_NOT_A_KEY;
+    mode->keyed = 1;
+    memcpy(mode->key, key, key_len);
+    return KEEPER_DONE;
+}
+
+uint32_t keeper_digest(const keeper_mode *mode, const uint8_t *bytes, size_t len, uint8_t *out, size_t out_len) {
     if (out_len < NODE) return KEEPER_OUTPUT_TOO_SHORT;
     uint8_t result[NODE];
-    digest(bytes, len, result);
+    digest(mode, bytes, len, result);
     memcpy(out, result, NODE);
     return KEEPER_DONE;
 }
@@ -108,37 +129,38 @@ uint32_t keeper_leaf_count(uint64_t size, uint64_t *leaves) {
     return KEEPER_DONE;
 }
 
-uint32_t keeper_append(uint64_t size, const uint8_t *record, size_t record_len, uint8_t *nodes, size_t nodes_len, uint64_t *new_size, uint64_t *hashes) {
+uint32_t keeper_append(const keeper_mode *mode, uint64_t size, const uint8_t *record, size_t record_len, uint8_t *nodes, size_t nodes_len, uint64_t *new_size,
+                       uint64_t *hashes) {
     uint64_t leaves, at = size;
     if (keeper_leaf_count(size, &leaves) != KEEPER_DONE) return KEEPER_NO_SUCH_SIZE;
     if (leaves == most) return KEEPER_TOO_MANY_LEAVES;
     if (record_len > LONGEST) return KEEPER_RECORD_TOO_LONG;
     if (nodes_len / NODE < size_of(leaves + 1)) return KEEPER_NODES_TOO_SHORT;
-    digest(record, record_len, nodes + NODE * at);
+    digest(mode, record, record_len, nodes + NODE * at);
     for (unsigned height = 1; leaves >> (height - 1) & 1; height++, at++)
-        digest_pair(nodes + NODE * (at + 1 - ((uint64_t)1 << height)), nodes + NODE * at, nodes + NODE * (at + 1));
+        digest_pair(mode, nodes + NODE * (at + 1 - ((uint64_t)1 << height)), nodes + NODE * at, nodes + NODE * (at + 1));
     *new_size = at + 1;
     *hashes = at + 1 - size;
     return KEEPER_DONE;
 }
 
 /* The peaks from one leaf on, folded. */
-static void fold_from(uint64_t leaves, uint64_t first, const uint8_t *nodes, uint8_t *out) {
+static void fold_from(const keeper_mode *mode, uint64_t leaves, uint64_t first, const uint8_t *nodes, uint8_t *out) {
     int some = 0;
     for (uint64_t left = leaves; left > first; left &= left - 1) {
         const uint8_t *peak = nodes + NODE * (size_of(left) - 1);
-        if (some++) digest_pair(peak, out, out);
+        if (some++) digest_pair(mode, peak, out, out);
         else memcpy(out, peak, NODE);
     }
 }
 
-uint32_t keeper_root(uint64_t size, const uint8_t *nodes, size_t nodes_len, uint8_t *out, size_t out_len) {
+uint32_t keeper_root(const keeper_mode *mode, uint64_t size, const uint8_t *nodes, size_t nodes_len, uint8_t *out, size_t out_len) {
     uint64_t leaves;
     if (keeper_leaf_count(size, &leaves) != KEEPER_DONE) return KEEPER_NO_SUCH_SIZE;
     if (leaves == 0) return KEEPER_EMPTY_LOG;
     if (nodes_len / NODE < size) return KEEPER_NODES_TOO_SHORT;
     if (out_len < NODE) return KEEPER_OUTPUT_TOO_SHORT;
-    fold_from(leaves, 0, nodes, out);
+    fold_from(mode, leaves, 0, nodes, out);
     return KEEPER_DONE;
 }
 
@@ -165,8 +187,8 @@ static unsigned peak_of(uint64_t leaves, uint64_t index, uint64_t *first, unsign
 
 static uint64_t place(uint64_t index, unsigned height) { return size_of(index >> height << height) + ((uint64_t)2 << height) - 2; }
 
-uint32_t keeper_letter_write(uint64_t size, uint64_t index, const uint8_t *record, size_t record_len, const uint8_t *nodes, size_t nodes_len, uint8_t *out,
-                             size_t out_len, size_t *length) {
+uint32_t keeper_letter_write(const keeper_mode *mode, uint64_t size, uint64_t index, const uint8_t *record, size_t record_len, const uint8_t *nodes,
+                             size_t nodes_len, uint8_t *out, size_t out_len, size_t *length) {
     uint64_t leaves, first;
     unsigned lefts, done = 0;
     uint8_t leaf[NODE], items[33 * NODE];
@@ -174,12 +196,12 @@ uint32_t keeper_letter_write(uint64_t size, uint64_t index, const uint8_t *recor
     if (index >= leaves) return KEEPER_NO_SUCH_LEAF;
     if (record_len > LONGEST) return KEEPER_RECORD_TOO_LONG;
     if (nodes_len / NODE < size) return KEEPER_NODES_TOO_SHORT;
-    digest(record, record_len, leaf);
+    digest(mode, record, record_len, leaf);
     if (memcmp(leaf, nodes + NODE * size_of(index), NODE) != 0) return KEEPER_OTHER_RECORD;
     unsigned height = peak_of(leaves, index, &first, &lefts);
     for (uint64_t left = first, k = lefts; k-- > 0; left &= left - 1, done++) memcpy(items + NODE * k, nodes + NODE * (size_of(left) - 1), NODE);
     for (unsigned k = 0; k < height; k++) memcpy(items + NODE * done++, nodes + NODE * place(index ^ (uint64_t)1 << k, k), NODE);
-    if (first + ((uint64_t)1 << height) < leaves) fold_from(leaves, first + ((uint64_t)1 << height), nodes, items + NODE * done++);
+    if (first + ((uint64_t)1 << height) < leaves) fold_from(mode, leaves, first + ((uint64_t)1 << height), nodes, items + NODE * done++);
     if (out_len < HEAD + record_len + NODE * done) return KEEPER_OUTPUT_TOO_SHORT;
     put_number(out, 8, size), put_number(out + 8, 8, index), put_number(out + 16, 4, record_len);
     if (record_len > 0) memcpy(out + HEAD, record, record_len);
@@ -189,21 +211,21 @@ uint32_t keeper_letter_write(uint64_t size, uint64_t index, const uint8_t *recor
 }
 
 /* The letter's root, from its items. */
-static void work_out(uint64_t leaves, const uint8_t *letter, size_t record_len, uint8_t top[NODE]) {
+static void work_out(const keeper_mode *mode, uint64_t leaves, const uint8_t *letter, size_t record_len, uint8_t top[NODE]) {
     uint64_t first, index = number_at(letter + 8, 8);
     unsigned lefts, height = peak_of(leaves, index, &first, &lefts);
     const uint8_t *items = letter + HEAD + record_len;
-    digest(letter + HEAD, record_len, top);
+    digest(mode, letter + HEAD, record_len, top);
     for (unsigned k = 0; k < height; k++) {
         const uint8_t *item = items + NODE * (lefts + k);
-        if (index >> k & 1) digest_pair(item, top, top);
-        else digest_pair(top, item, top);
+        if (index >> k & 1) digest_pair(mode, item, top, top);
+        else digest_pair(mode, top, item, top);
     }
-    if (first + ((uint64_t)1 << height) < leaves) digest_pair(top, items + NODE * (lefts + height), top);
-    while (lefts-- > 0) digest_pair(items + NODE * lefts, top, top);
+    if (first + ((uint64_t)1 << height) < leaves) digest_pair(mode, top, items + NODE * (lefts + height), top);
+    while (lefts-- > 0) digest_pair(mode, items + NODE * lefts, top, top);
 }
 
-static uint32_t check_fields(uint64_t size, const uint8_t *root, const uint8_t *letter, size_t letter_len) {
+static uint32_t check_fields(const keeper_mode *mode, uint64_t size, const uint8_t *root, const uint8_t *letter, size_t letter_len) {
     uint64_t leaves = 0, first;
     unsigned lefts;
     uint8_t top[NODE];
@@ -216,16 +238,16 @@ static uint32_t check_fields(uint64_t size, const uint8_t *root, const uint8_t *
     unsigned height = peak_of(leaves, number_at(letter + 8, 8), &first, &lefts);
     unsigned items = lefts + height + (first + ((uint64_t)1 << height) < leaves);
     if (letter_len != HEAD + stated + NODE * items) return KEEPER_NOT_A_LETTER;
-    work_out(leaves, letter, stated, top);
+    work_out(mode, leaves, letter, stated, top);
     return memcmp(top, root, NODE) == 0 ? KEEPER_DONE : KEEPER_OTHER_ROOT;
 }
 
-uint32_t keeper_letter_check(uint64_t size, const uint8_t *root, size_t root_len, const uint8_t *letter, size_t letter_len, uint64_t *index, size_t *record_at,
-                             size_t *record_len) {
+uint32_t keeper_letter_check(const keeper_mode *mode, uint64_t size, const uint8_t *root, size_t root_len, const uint8_t *letter, size_t letter_len,
+                             uint64_t *index, size_t *record_at, size_t *record_len) {
     uint64_t leaves;
     if (keeper_leaf_count(size, &leaves) != KEEPER_DONE) return KEEPER_NO_SUCH_SIZE;
     if (root_len != NODE) return KEEPER_NOT_A_DIGEST;
-    uint32_t number = check_fields(size, root, letter, letter_len);
+    uint32_t number = check_fields(mode, size, root, letter, letter_len);
     if (number != KEEPER_DONE) return number;
     *index = number_at(letter + 8, 8);
     *record_at = HEAD;
@@ -234,23 +256,23 @@ uint32_t keeper_letter_check(uint64_t size, const uint8_t *root, size_t root_len
 }
 
 /* "pair" and "records" want two strings of one digest, which no test has: a letter that is accepted is the log's own here. */
-uint32_t keeper_find(uint64_t size, const uint8_t *nodes, size_t nodes_len, const uint8_t *record, size_t record_len, const uint8_t *letter, size_t letter_len,
-                     uint8_t *first, size_t first_len, uint8_t *second, size_t second_len, uint32_t *found) {
+uint32_t keeper_find(const keeper_mode *mode, uint64_t size, const uint8_t *nodes, size_t nodes_len, const uint8_t *record, size_t record_len,
+                     const uint8_t *letter, size_t letter_len, uint8_t *first, size_t first_len, uint8_t *second, size_t second_len, uint32_t *found) {
     uint8_t top[NODE], own[NODE];
-    uint32_t number = keeper_root(size, nodes, nodes_len, top, NODE);
+    uint32_t number = keeper_root(mode, size, nodes, nodes_len, top, NODE);
     (void)first, (void)second;
-    if (number == KEEPER_DONE) number = check_fields(size, top, letter, letter_len);
+    if (number == KEEPER_DONE) number = check_fields(mode, size, top, letter, letter_len);
     if (number != KEEPER_DONE) return number;
     uint64_t index = number_at(letter + 8, 8), leaves = 0, peak;
     unsigned lefts;
     if (record_len > LONGEST) return KEEPER_RECORD_TOO_LONG;
-    digest(record, record_len, own);
+    digest(mode, record, record_len, own);
     if (memcmp(own, nodes + NODE * size_of(index), NODE) != 0) return KEEPER_OTHER_RECORD;
     keeper_leaf_count(size, &leaves);
     unsigned height = peak_of(leaves, index, &peak, &lefts);
     for (unsigned k = 1; k <= height; k++) {
         const uint8_t *parent = nodes + NODE * place(index, k);
-        digest_pair(parent - NODE * ((uint64_t)1 << k), parent - NODE, own);
+        digest_pair(mode, parent - NODE * ((uint64_t)1 << k), parent - NODE, own);
         if (memcmp(own, parent, NODE) != 0) return KEEPER_DAMAGED_NODES;
     }
     if (first_len < BLOCK || second_len < BLOCK) return KEEPER_OUTPUT_TOO_SHORT;

@@ -6,7 +6,7 @@ import subprocess
 import time
 import unittest
 
-from harness import KEEPER, LOSSY, RECORDS, HostTest, keeper, nodes_of, run_record, said_of, stream_of
+from harness import FEWER, KEEPER, LOSSY, RECORDS, HostTest, keeper, nodes_of, run_record, said_of, stream_of
 
 
 class Killed(HostTest):
@@ -48,7 +48,7 @@ class Killed(HostTest):
     def test_large_groups(self):
         """Killed while much is being written: whole groups or nothing of one."""
         chance, given = random.Random(2), stream_of([bytes(200)] * 20000)
-        for _ in range(6):
+        for _ in range(6 // FEWER):
             before = self.records_in()
             with subprocess.Popen([KEEPER, "append", self.log, "--stream"], stdin=subprocess.PIPE, stdout=subprocess.DEVNULL) as writer:
                 try:

@@ -1,7 +1,7 @@
 """Damaged logs: what is found, what reading falls back to, that nothing is appended, verify and repair."""
 import unittest
 
-from harness import COPY, NODE, NODES, PAGE, RECORDS, SEALED, HostTest, flipped, keeper, nodes_of, said_of
+from harness import COPY, FEWER, KEY, NODE, NODES, PAGE, RECORDS, SEALED, HostTest, flipped, keeper, nodes_of, said_of
 
 
 class DamageTest(HostTest):
@@ -98,10 +98,10 @@ class Damage(DamageTest):
     def test_sizes(self):
         """One changed byte in a size: another copy is whole, nothing is missing, and the next append goes on."""
         for start in (0, COPY, PAGE, PAGE + COPY):
-            for place in range(0, SEALED, 6):
+            for place in range(0, SEALED, 6 * FEWER):
                 path = self.file("sizes", flipped(self.whole, start + place))
                 self.reads(path, RECORDS[:5], "a copy of its size is damaged")
-                if place == 84 or place % 24 == 0:
+                if place % 24 == 0 or place + 6 >= SEALED:
                     self.ran(0, "all 5 records are there", "append", path, given=RECORDS[5])
                     self.assertEqual(self.records_in(path), 6)
             self.assertEqual(path.read_bytes()[NODES:NODES + NODE * nodes_of(6)], said_of(RECORDS[:6])[2])
@@ -116,6 +116,7 @@ class Damage(DamageTest):
             path.unlink()
         self.failed("is not a log", "root", self.file("damaged", bytes(NODES) + self.whole[NODES:]))
 
+    @unittest.skipIf(KEY, "a keyed log has had copies from the first on")
     def test_log_without_copies(self):
         """A log whose sizes stand once in each page, as they did before, is whole."""
         data = bytearray(self.whole)

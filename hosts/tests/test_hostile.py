@@ -2,14 +2,7 @@
 import random
 import unittest
 
-from harness import CHECKED, COPY, NODE, NODES, PAGE, RECORDS, SEALED, HostTest, keeper, letter_of, letters, nodes_of, said_of, stream_of
-from rules.blake3 import digest
-
-
-def sealed(size, root):
-    """A copy of a size with a true seal."""
-    head = b"cinchcleat log 1" + size.to_bytes(8, "big") + root
-    return head + digest(head)
+from harness import CHECKED, COPY, FEWER, NODE, NODES, PAGE, RECORDS, SEALED, HostTest, keeper, letter_of, nodes_of, number_of, said_of, sealed, stream_of
 
 
 class Hostile(HostTest):
@@ -28,7 +21,7 @@ class Hostile(HostTest):
         self.done("append", self.log, "--keep-records", "--stream", given=stream_of(records[:4]))
         self.done("append", self.log, "--stream", given=stream_of(records[4:]))
         whole = {name: (self.folder / name).read_bytes()[:9000] for name in ("log", "log.records", "log.index")}
-        for turn in range(24 if CHECKED else 4):
+        for turn in range((24 if CHECKED else 4) // FEWER):
             data = {name: bytearray(part) for name, part in whole.items()}
             for _ in range(chance.randrange(1, 4)):
                 part = data[chance.choice(("log", "log", "log.records", "log.index"))]
@@ -62,14 +55,14 @@ class Hostile(HostTest):
     def test_letters(self):
         """Random letters: no crash in what shows them, and none is accepted that the second program refuses."""
         chance, (size, top, _) = random.Random(5), said_of(RECORDS[:7])
-        for _ in range(150 if CHECKED else 15):
+        for _ in range((150 if CHECKED else 15) // FEWER):
             letter = bytearray(letter_of(RECORDS[:7], chance.randrange(7)))
             for _ in range(chance.randrange(3)):
                 letter[chance.randrange(min(len(letter), 40))] = chance.randrange(256)
             if chance.random() < 0.2:
                 letter = letter[:chance.randrange(len(letter))]
             ran = keeper("check", size, top.hex(), "--show", "--page", self.folder / "page.html", given=bytes(letter))
-            wanted = letters.check_letter(size, top, bytes(letter)).number
+            wanted = number_of(size, top, bytes(letter))
             self.assertEqual(ran.returncode, 1 if wanted else 0, ran.stderr)
             self.assertIn(f"number {wanted}:".encode() if wanted else b"", ran.stderr)
 

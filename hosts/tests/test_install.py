@@ -1,5 +1,6 @@
 """make install: what is installed runs alone, and a C program finds the library by pkg-config; the manual pages and completion."""
 import os
+import re
 import shutil
 import subprocess
 import unittest
@@ -27,6 +28,10 @@ class Installed(HostTest):
         self.holds(RECORDS[:5])
         (self.folder / "panel").symlink_to(self.at / "bin" / "panel")
         ran = subprocess.run([self.folder / "panel"], input=size.to_bytes(8, "big") + top + letter_of(RECORDS[:5], 2), capture_output=True, check=False, env=path)
+        self.assertEqual((ran.returncode, ran.stdout, ran.stderr), (0, b"0\n", b""))
+        key = bytes(range(32))
+        given = size.to_bytes(8, "big") + said_of(RECORDS[:5], key)[1] + letter_of(RECORDS[:5], 2, key)
+        ran = subprocess.run([self.folder / "panel", "--key", self.file("key", key)], input=given, capture_output=True, check=False, env=path)
         self.assertEqual((ran.returncode, ran.stdout, ran.stderr), (0, b"0\n", b""))
         ran = subprocess.run([self.at / "bin" / "panel", "--version"], capture_output=True, check=True, env=path)
         self.assertIn(b"panel (Cinchcleat)", ran.stdout)
@@ -68,7 +73,7 @@ class Manual(HostTest):
 
     def test_every_call(self):
         page, header = (TOP / "man" / "keeper.3").read_text(), (TOP / "include" / "keeper.h").read_text()
-        calls = {part.split("(")[0] for part in header.split() if part.startswith("keeper_")}
+        calls = set(re.findall(r"^uint32_t (keeper_\w+)\(", header, re.M))
         self.assertGreater(len(calls), 10)
         self.assertEqual([call for call in sorted(calls) if call not in page], [])
 

@@ -17,9 +17,10 @@ class Objects(HostTest):
         said = self.done("info", self.log).decode().splitlines()
         self.assertEqual(said[:3], ["records 5", "size    8", f"root    {self.top}"])
         self.assertIn(str(self.log), said[3])
-        self.assertEqual(said[4:], ["state   whole", "records are not kept beside it"])
+        self.assertEqual(said[4:], ["keyed   no", "state   whole", "records are not kept beside it"])
         answer = self.object(0, "info", self.log)
-        wanted = {"records": 5, "size": 8, "root": self.top, "file": str(self.log), "file_length": self.log.stat().st_size, "whole": True, "keeps_records": False}
+        wanted = {"records": 5, "size": 8, "root": self.top, "file": str(self.log), "file_length": self.log.stat().st_size, "keyed": False, "whole": True,
+                  "keeps_records": False}
         self.assertEqual({name: answer[name] for name in wanted}, wanted)
         self.done("append", self.folder / "empty", "--stream")
         self.assertEqual(self.object(0, "info", self.folder / "empty")["root"], "")

@@ -1,7 +1,7 @@
 """Letters: round trips, refusals, the size that was noted; and no letter from damaged nodes."""
 import unittest
 
-from harness import LONGEST_RECORD, NODE, NODES, RECORDS, HostTest, flipped, keeper, letter_of, letters, nodes_of, said_of
+from harness import LONGEST_RECORD, NODE, NODES, RECORDS, HostTest, flipped, keeper, letter_of, nodes_of, said_of
 
 
 class Letters(HostTest):
@@ -27,8 +27,8 @@ class Letters(HostTest):
         self.refused(10, "root", self.folder / "empty")
 
     def test_checker_refuses(self):
-        size, top, nodes = said_of(RECORDS)
-        letter = letters.letter_of(size, 3, RECORDS[3], nodes)
+        size, top, _ = said_of(RECORDS)
+        letter = letter_of(RECORDS, 3)
         check = ("check", size, top.hex())
         self.refused(1, "check", 2, top.hex(), given=letter)
         self.refused(12, "check", size, top.hex()[:-2], given=letter)

@@ -6,10 +6,10 @@ import shutil
 import subprocess
 import unittest
 
-from harness import CHECKED, RECORDS, HostTest, flipped, keeper, letter_of, run_record, said_of
+from harness import CHECKED, KEY, RECORDS, HostTest, digest_by, flipped, keeper, letter_of, run_record, said_of
 from rules.letters import items_in, letter_inputs
-from rules.blake3 import digest
 
+digest = digest_by(KEY)
 BROWSER = next((path for path in map(shutil.which, ("chromium", "chromium-browser", "google-chrome")) if path), None)
 
 

@@ -12,9 +12,9 @@ from harness import CHECKED, RECORDS, TOP, HostTest, letter_of, said_of
 PLAIN = {name: os.environ[name] for name in ("PATH", "HOME", "LANG") if name in os.environ}
 
 
-def noted_and(letter, records):
-    """What the panel's program reads."""
-    size, top, _ = said_of(records)
+def noted_and(letter, records, key=None):
+    """What the panel's program reads, behind the key for a keyed log."""
+    size, top, _ = said_of(records, key)
     return size.to_bytes(8, "big") + top + letter
 
 
@@ -37,7 +37,7 @@ class Scripts(HostTest):
         subprocess.run(["chmod", "-R", "a-w", cls.copy], check=True)
         cls.tools = cls.place / "tools"
         cls.tools.mkdir()
-        for command in ("sh", "readlink", "find", "sha256sum", "xargs", "sort", "cat", "touch", "uname", "mktemp", "rm", "grep", "sed", "head", "tail", "cut"):
+        for command in ("sh", "readlink", "find", "sha256sum", "xargs", "sort", "cat", "touch", "uname", "mktemp", "rm", "grep", "sed", "head", "tail", "cut", "od"):
             (cls.tools / command).symlink_to(shutil.which(command))
 
     @classmethod
@@ -58,6 +58,10 @@ class Scripts(HostTest):
         self.assertEqual((ran.returncode, ran.stdout, ran.stderr), (0, b"appended 1 record, index 0; size 1, hashes 1\n", b""))
         ran = self.run_script(self.folder / "panel", given=noted_and(letter_of(RECORDS[3:4], 0), RECORDS[3:4]))
         self.assertEqual((ran.returncode, ran.stdout, ran.stderr), (0, b"0\n", b""))
+        key, given = self.file("key", bytes(range(32))), noted_and(letter_of(RECORDS[3:4], 0, bytes(range(32))), RECORDS[3:4], bytes(range(32)))
+        for words, number in ((("--key", key), b"0\n"), (("--key", self.file("other", bytes(32))), b"9\n"), ((), b"9\n")):
+            ran = self.run_script(self.folder / "panel", *words, given=given)
+            self.assertEqual((ran.returncode, ran.stdout, ran.stderr), (0, number, b""))
         self.holds(RECORDS[3:4], self.folder / "log")
         self.assertEqual(sorted((str(path), path.lstat().st_mtime_ns) for path in self.copy.rglob("*")), before)
 
