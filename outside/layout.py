@@ -26,5 +26,6 @@ def layout_agrees(bridge):
     keyed, plain = (filled_by(bridge, make) for make in (lambda before: mode_keyed_case(KEY, before), mode_plain_case))
     by_library = [len(keyed), keyed.find(1), keyed.find(KEY) - keyed.find(1), keyed.find(KEY), len(KEY)]
     good = compiled == by_library == LAYOUT and keyed == mode_bytes(1, KEY) and plain == bytes(LAYOUT[0])
-    print(f"outside: a mode is {compiled} by the compiler and {by_library} by the library: {'the same' if good else f'{LAYOUT} is expected'}")
+    print(f"outside: a mode's size, offset and length of its number, and of its key: {compiled} by the compiler, {by_library} by the library"
+          + ("" if good else f", but {LAYOUT} is expected"))
     return good

@@ -19,7 +19,7 @@ def octets(form):
     if isinstance(form, list):
         return b"".join(map(octets, form))
     if isinstance(form, dict):
-        return bytes((form["start"] + i) % 251 for i in range(form["length"]))
+        return (bytes(range(251)) * (2 + form["length"] // 251))[form["start"]:][:form["length"]]
     return bytes.fromhex(form)
 
 

@@ -9,7 +9,7 @@ from portable.orders import check_orders
 from rules.blake3 import PLAIN, Mode, digest, keyed
 from rules.finder import PAIR, find, log_inputs
 from rules.letters import LETTER_HEAD, WHOLE_LETTER, check_letter, index_in, items_in, letter_bytes, letter_inputs, letter_of, record_in, size_in
-from rules.log import NODE, append, folded, node, plain_root, root
+from rules.log import NODE, append, folded, node, root, split_root
 from rules.shape import items_of, leaf_count, leaf_position, nodes_of, size_of, trailing_ones
 
 PUBLISHED = Path(__file__).resolve().parent.parent / "vectors" / "blake3-published.txt"
@@ -61,7 +61,7 @@ def check_marked():
 
 
 def check_logs(most, name):
-    """Logs of 1 to most records in a mode: counts, sizes and positions by two rules each, and the root by the plain rule."""
+    """Logs of 1 to most records in a mode: counts, sizes and positions by two rules each, and the root without positions."""
     mode = MODES[name]
     buffer, size, leaves, good = bytearray(NODE * nodes_of(most)), 0, [], 0
     for i in range(most):
@@ -71,10 +71,10 @@ def check_logs(most, name):
             answer == (0, nodes_of(i + 1), 1 + trailing_ones(i))
             and leaf_count(answer.size) == (0, i + 1)
             and node(buffer, nodes_of(i)) == leaves[i]
-            and root(answer.size, buffer, mode) == (0, plain_root(leaves, mode))
+            and root(answer.size, buffer, mode) == (0, split_root(leaves, mode))
         )
         size = answer.size
-    print(f"logs, {name}: {good} of {most} keep size, count, leaf position and the plain rule of the root")
+    print(f"logs, {name}: {good} of {most} keep size, count, leaf position, and the root without positions")
     return good == most
 
 

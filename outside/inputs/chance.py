@@ -2,7 +2,7 @@
 import random
 from collections import namedtuple
 
-from calls import MODED, PLAIN, Case, flipped
+from calls import PLAIN, Case, flipped
 from inputs.world import EDGES, LEAGUES, LEAVES, LENGTHS
 from rules import letters, shape, stored
 from rules.finder import PAIR
@@ -183,12 +183,19 @@ RANDOM = {
     random_digest: 1, random_number: 2, random_append: 3, random_root: 2, random_letter_write: 3, random_letter_check: 3,
     random_large_check: 1, random_find: 4, random_store_leaf: 1, random_store_inner: 1, random_read_node: 1,
 }
+# Those of calls that work out no digest, and have no mode.
+NO_MODE = (random_number, random_store_inner, random_read_node)
+
+
+def any_kind(chance):
+    """A kind of random case."""
+    kind, = chance.choices(list(RANDOM), RANDOM.values())
+    return kind
 
 
 def random_case(chance, world):
     """A case of any call."""
-    kind, = chance.choices(list(RANDOM), RANDOM.values())
-    return kind(chance, world, any_given(chance, world))
+    return any_kind(chance)(chance, world, any_given(chance, world))
 
 
 def any_mode(chance, mode):
@@ -199,7 +206,8 @@ def any_mode(chance, mode):
 
 
 def random_keyed_cases(chance, own, world):
-    """The case of the same choices in a keyed world, where it works out a digest; its mode is chosen by itself."""
-    case = random_case(chance, world)
-    if case.call in MODED:
-        yield case._replace(parts=[any_mode(own, case.parts[0]), *case.parts[1:]])
+    """The case of the same choices in a keyed world, where it has a mode, which is chosen by itself."""
+    kind = any_kind(chance)
+    if kind not in NO_MODE:
+        case = kind(chance, world, any_given(chance, world))
+        yield case._replace(parts=[any_mode(own, world.mode), *case.parts[1:]])

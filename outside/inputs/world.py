@@ -18,6 +18,7 @@ LEAGUES = tuple(mode_bytes(1, key) for key in KEYS)
 worked_out = {}
 
 
+@functools.lru_cache(maxsize=None)
 def digest_in(mode):
     """The digest in a mode, which is given as C has it. Each is worked out once, for all modes that begin alike."""
     by_rules = blake3.Mode(*struct.unpack("<I32s", mode))

@@ -24,19 +24,23 @@ def bytes_of(words):
     return struct.pack(f"<{len(words)}I", *words)
 
 
-def turned_right(word, count):
-    """The word turned right by count bits."""
-    return (word >> count | word << (32 - count)) & LOW_WORD
-
-
 def mix(state, places, x, y):
-    """Mix the four words of the state at the places a, b, c, d with the message words x and y."""
-    a, b, c, d = places
-    for word, turn_d, turn_b in ((x, 16, 12), (y, 8, 7)):
-        state[a] = (state[a] + state[b] + word) & LOW_WORD
-        state[d] = turned_right(state[d] ^ state[a], turn_d)
-        state[c] = (state[c] + state[d]) & LOW_WORD
-        state[b] = turned_right(state[b] ^ state[c], turn_b)
+    """Mix the four words of the state at the places a, b, c, d with the message words x and y. w >> n | w << 32 - n is w turned right by n."""
+    at_a, at_b, at_c, at_d = places
+    a, b, c, d = state[at_a], state[at_b], state[at_c], state[at_d]
+    a = (a + b + x) & LOW_WORD
+    d ^= a
+    d = (d >> 16 | d << 16) & LOW_WORD
+    c = (c + d) & LOW_WORD
+    b ^= c
+    b = (b >> 12 | b << 20) & LOW_WORD
+    a = (a + b + y) & LOW_WORD
+    d ^= a
+    d = (d >> 8 | d << 24) & LOW_WORD
+    c = (c + d) & LOW_WORD
+    b ^= c
+    b = (b >> 7 | b << 25) & LOW_WORD
+    state[at_a], state[at_b], state[at_c], state[at_d] = a, b, c, d
 
 
 def one_round(state, message):

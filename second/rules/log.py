@@ -53,9 +53,9 @@ def root(size, buffer, digest=PLAIN):
     return Rooted(0, folded([node(buffer, peak.position) for peak in peaks_of(leaves)], digest))
 
 
-def plain_root(digests, digest=PLAIN):
-    """The root by the plain rule (RULES 7.5): more digests than one are split after the largest power of two below their number."""
+def split_root(digests, digest=PLAIN):
+    """The root without positions (RULES 7.5): more digests than one are split after the largest power of two below their number."""
     if len(digests) == 1:
         return digests[0]
     left = left_chunks(len(digests))
-    return digest(plain_root(digests[:left], digest) + plain_root(digests[left:], digest))
+    return digest(split_root(digests[:left], digest) + split_root(digests[left:], digest))
