@@ -4,7 +4,8 @@
    part (4 each), the parts' bytes. A part is a lent buffer or a result variable. An answer: whether a byte around a part was changed (1), the
    call's number (4), the parts' bytes. All little-endian. Placing, bit 0: a part ends where its room ends, else it begins where that begins;
    bit 1: an empty part has a null pointer. Next to its room on either side is a page that nobody may read or write, and a call may not write
-   to a part that it only reads: a library that does ends this program, and that is a difference too. */
+   to a part that it only reads: a library that does ends this program, and that is a difference too. A mode is a part as any other. */
+#include <stddef.h>
 #include <stdint.h>
 #include <stdio.h>
 #include <stdlib.h>
@@ -13,13 +14,14 @@
 #include <unistd.h>
 #include "keeper.h"
 
-enum { NAME = 16, NUMBERS = 2, PARTS = 6, ROOM = 1 << 17, MARGIN = 256, UNTOUCHED = 0xA5 };
+enum { NAME = 16, NUMBERS = 2, PARTS = 7, ROOM = 1 << 17, MARGIN = 256, UNTOUCHED = 0xA5 };
 typedef struct {
     uint8_t *room, *bytes;
     size_t length;
 } Part;
 static Part parts[PARTS];
 static uint64_t numbers[NUMBERS];
+_Static_assert(sizeof(keeper_mode) == 36 && offsetof(keeper_mode, keyed) == 0 && offsetof(keeper_mode, key) == 4, "a mode is its number and its key");
 
 /* ---- the calls, by the names and in the order of keeper.h */
 
@@ -27,17 +29,20 @@ static uint64_t numbers[NUMBERS];
 #define U64(I) ((uint64_t *)(void *)parts[I].bytes)
 #define U32(I) ((uint32_t *)(void *)parts[I].bytes)
 #define SIZE(I) ((size_t *)(void *)parts[I].bytes)
+#define MODE(I) ((keeper_mode *)(void *)parts[I].bytes)
 
-static uint32_t digest(void) { return keeper_digest(BUFFER(0), BUFFER(1)); }
+static uint32_t mode_plain(void) { return keeper_mode_plain(MODE(0)); }
+static uint32_t mode_keyed(void) { return keeper_mode_keyed(BUFFER(0), MODE(1)); }
+static uint32_t digest(void) { return keeper_digest(MODE(0), BUFFER(1), BUFFER(2)); }
 static uint32_t size(void) { return keeper_size(numbers[0], U64(0)); }
 static uint32_t leaf_position(void) { return keeper_leaf_position(numbers[0], U64(0)); }
 static uint32_t leaf_count(void) { return keeper_leaf_count(numbers[0], U64(0)); }
-static uint32_t append(void) { return keeper_append(numbers[0], BUFFER(0), BUFFER(1), U64(2), U64(3)); }
-static uint32_t root(void) { return keeper_root(numbers[0], BUFFER(0), BUFFER(1)); }
-static uint32_t letter_write(void) { return keeper_letter_write(numbers[0], numbers[1], BUFFER(0), BUFFER(1), BUFFER(2), SIZE(3)); }
-static uint32_t letter_check(void) { return keeper_letter_check(numbers[0], BUFFER(0), BUFFER(1), U64(2), SIZE(3), SIZE(4)); }
-static uint32_t find(void) { return keeper_find(numbers[0], BUFFER(0), BUFFER(1), BUFFER(2), BUFFER(3), BUFFER(4), U32(5)); }
-static uint32_t store_leaf(void) { return keeper_store_leaf(BUFFER(0), BUFFER(1), SIZE(2)); }
+static uint32_t append(void) { return keeper_append(MODE(0), numbers[0], BUFFER(1), BUFFER(2), U64(3), U64(4)); }
+static uint32_t root(void) { return keeper_root(MODE(0), numbers[0], BUFFER(1), BUFFER(2)); }
+static uint32_t letter_write(void) { return keeper_letter_write(MODE(0), numbers[0], numbers[1], BUFFER(1), BUFFER(2), BUFFER(3), SIZE(4)); }
+static uint32_t letter_check(void) { return keeper_letter_check(MODE(0), numbers[0], BUFFER(1), BUFFER(2), U64(3), SIZE(4), SIZE(5)); }
+static uint32_t find(void) { return keeper_find(MODE(0), numbers[0], BUFFER(1), BUFFER(2), BUFFER(3), BUFFER(4), BUFFER(5), U32(6)); }
+static uint32_t store_leaf(void) { return keeper_store_leaf(MODE(0), BUFFER(1), BUFFER(2), SIZE(3)); }
 static uint32_t store_inner(void) { return keeper_store_inner(BUFFER(0), BUFFER(1), SIZE(2)); }
 static uint32_t read_node(void) { return keeper_read_node(BUFFER(0), U32(1), BUFFER(2), SIZE(3), SIZE(4)); }
 
@@ -48,25 +53,36 @@ static uint32_t stray(void) {
     return 0;
 }
 
+/* No call of the library: how this compiler lays out a mode, for the other side to compare. */
+static uint32_t layout(void) {
+    *U64(0) = sizeof(keeper_mode);
+    *U64(1) = offsetof(keeper_mode, keyed), *U64(2) = sizeof MODE(0)->keyed;
+    *U64(3) = offsetof(keeper_mode, key), *U64(4) = sizeof MODE(0)->key;
+    return 0;
+}
+
 /* A call, and how many parts, the first ones, it only reads. */
 static const struct {
     const char *name;
     uint32_t (*call)(void);
     int reads;
 } calls[] = {
-    {"digest", digest, 1},
+    {"mode_plain", mode_plain, 0},
+    {"mode_keyed", mode_keyed, 1},
+    {"digest", digest, 2},
     {"size", size, 0},
     {"leaf_position", leaf_position, 0},
     {"leaf_count", leaf_count, 0},
-    {"append", append, 1},
-    {"root", root, 1},
-    {"letter_write", letter_write, 2},
-    {"letter_check", letter_check, 2},
-    {"find", find, 3},
-    {"store_leaf", store_leaf, 1},
+    {"append", append, 2},
+    {"root", root, 2},
+    {"letter_write", letter_write, 3},
+    {"letter_check", letter_check, 3},
+    {"find", find, 4},
+    {"store_leaf", store_leaf, 2},
     {"store_inner", store_inner, 1},
     {"read_node", read_node, 1},
     {"stray", stray, 0},
+    {"layout", layout, 0},
 };
 
 /* ---- rooms */

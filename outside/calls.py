@@ -6,20 +6,32 @@ from collections import namedtuple
 Case = namedtuple("Case", "call numbers parts")
 # What the parts of each call are called in a report, in their order.
 PARTS = {
-    "digest": ("data", "out"),
+    "mode_plain": ("mode",),
+    "mode_keyed": ("key", "mode"),
+    "digest": ("mode", "data", "out"),
     "size": ("size",),
     "leaf_position": ("position",),
     "leaf_count": ("leaves",),
-    "append": ("record", "nodes", "new_size", "hashes"),
-    "root": ("nodes", "out"),
-    "letter_write": ("record", "nodes", "out", "length"),
-    "letter_check": ("root", "letter", "index", "record_at", "record_len"),
-    "find": ("nodes", "record", "letter", "first", "second", "found"),
-    "store_leaf": ("record", "out", "length"),
+    "append": ("mode", "record", "nodes", "new_size", "hashes"),
+    "root": ("mode", "nodes", "out"),
+    "letter_write": ("mode", "record", "nodes", "out", "length"),
+    "letter_check": ("mode", "root", "letter", "index", "record_at", "record_len"),
+    "find": ("mode", "nodes", "record", "letter", "first", "second", "found"),
+    "store_leaf": ("mode", "record", "out", "length"),
     "store_inner": ("digest", "out", "length"),
     "read_node": ("bytes", "kind", "digest_out", "record_at", "record_len"),
     "stray": ("part",),
+    "layout": ("size", "keyed_at", "keyed_size", "key_at", "key_size"),
 }
+# Those that are no calls of the library.
+NO_CALLS = ("stray", "layout")
+# Those that work out a digest, in the mode that is their first part.
+MODED = tuple(call for call, parts in PARTS.items() if parts[0] == "mode" and len(parts) > 1)
+
+
+def is_keyed(case):
+    """Whether a case works out a digest in a keyed mode."""
+    return case.call in MODED and any(case.parts[0][:4])
 
 
 def u64(number):
@@ -32,9 +44,34 @@ def u32(number):
     return struct.pack("<I", number)
 
 
-def digest_case(data, room):
+def mode_bytes(keyed, key):
+    """A mode as C has it, 36 bytes: its number, and its key."""
+    return struct.pack("<I32s", keyed, key)
+
+
+PLAIN = mode_bytes(0, bytes(32))
+# What the bytes of a mode are before a call that makes one.
+BEFORE = bytes(range(100, 136))
+
+
+def mode_plain_case(before=BEFORE):
+    """The plain mode, over what was there before."""
+    return Case("mode_plain", (), [before])
+
+
+def mode_keyed_case(key, before=BEFORE):
+    """The mode of a key, over what was there before."""
+    return Case("mode_keyed", (), [key, before])
+
+
+def layout_case():
+    """Where the C compiler has the fields of a mode, into variables of 64 bits."""
+    return Case("layout", (), [u64(99)] * 5)
+
+
+def digest_case(data, room, mode=PLAIN):
     """A digest, into so many bytes."""
-    return Case("digest", (), [data, b"\7" * room])
+    return Case("digest", (), [mode, data, b"\7" * room])
 
 
 def number_case(call, number):
@@ -42,34 +79,34 @@ def number_case(call, number):
     return Case(call, (number,), [u64(0x1111111111111111)])
 
 
-def check_case(size, top, letter):
+def check_case(size, top, letter, mode=PLAIN):
     """A letter checked; the variables hold something before."""
-    return Case("letter_check", (size,), [top, letter, u64(3 << 40), u64(5 << 40), u64(7 << 40)])
+    return Case("letter_check", (size,), [mode, top, letter, u64(3 << 40), u64(5 << 40), u64(7 << 40)])
 
 
-def find_case(size, nodes, record, letter, rooms=(64, 64)):
+def find_case(size, nodes, record, letter, rooms=(64, 64), mode=PLAIN):
     """The finder, its buffers of these lengths."""
-    return Case("find", (size,), [nodes, record, letter, b"\x4b" * rooms[0], b"\x5a" * rooms[1], u32(99)])
+    return Case("find", (size,), [mode, nodes, record, letter, b"\x4b" * rooms[0], b"\x5a" * rooms[1], u32(99)])
 
 
-def write_case(size, index, record, nodes, room):
+def write_case(size, index, record, nodes, room, mode=PLAIN):
     """A letter written into so many bytes."""
-    return Case("letter_write", (size, index), [record, nodes, b"\x69" * room, u64(9 << 33)])
+    return Case("letter_write", (size, index), [mode, record, nodes, b"\x69" * room, u64(9 << 33)])
 
 
-def append_case(size, record, nodes):
+def append_case(size, record, nodes, mode=PLAIN):
     """An append."""
-    return Case("append", (size,), [record, nodes, u64(11 << 33), u64(13 << 33)])
+    return Case("append", (size,), [mode, record, nodes, u64(11 << 33), u64(13 << 33)])
 
 
-def root_case(size, nodes, room):
+def root_case(size, nodes, room, mode=PLAIN):
     """A root, into so many bytes."""
-    return Case("root", (size,), [nodes, b"\x78" * room])
+    return Case("root", (size,), [mode, nodes, b"\x78" * room])
 
 
-def leaf_case(record, room):
+def leaf_case(record, room, mode=PLAIN):
     """A stored leaf written into so many bytes."""
-    return Case("store_leaf", (), [record, b"\x2d" * room, u64(19 << 33)])
+    return Case("store_leaf", (), [mode, record, b"\x2d" * room, u64(19 << 33)])
 
 
 def inner_case(given, room):

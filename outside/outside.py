@@ -4,7 +4,8 @@
 A C program, outside/bridge.c, makes each call on buffers that lie against forbidden pages and hands back the number and every byte that it lent,
 result variables too. What the second program says is compared with all of it. Each refusal alone, and every two at once, stand in vectors/, which
 outside/vectors.py holds the library to; here is what such files cannot hold, and no case that they have. The finder's "records" and "pair" are two
-strings of one digest: nobody has such strings, so of its answers only "same" and the refusals are met here.
+strings of one digest: nobody has such strings, so of its answers only "same" and the refusals are met here. What works out a digest is tried plain
+and keyed, and has a row for each at the end.
 
     outside.py                        build the bridge and compare
     outside.py --seed N --rounds N    other random inputs, or more of them
@@ -22,19 +23,29 @@ from pathlib import Path
 sys.path.insert(0, str(Path(__file__).resolve().parent.parent / "second"))
 
 from bridge import Answer, Bridge, build, differences, lines_of, made_wrong, refused, wrong_answers  # noqa: E402
-from calls import Case, u32, u64  # noqa: E402
+from calls import MODED, PLAIN, Case, is_keyed, mode_bytes, u32, u64  # noqa: E402
 from inputs import cases  # noqa: E402
-from inputs.world import digest  # noqa: E402
-from rules import finder, letters, log, shape, stored  # noqa: E402
+from inputs.world import digest_in  # noqa: E402
+from layout import layout_agrees  # noqa: E402
+from rules import blake3, finder, letters, log, shape, stored  # noqa: E402
 from rules.log import NODE  # noqa: E402
 
 ROUNDS = 8000
 
 
-# ---- what the second program says of a call: the number, and the parts where it is done
+# ---- what the second program says of a call: the number, and the parts where it is done; in place of a mode that is only read stands its digest
 
 
-def say_digest(numbers, data, out):
+def say_mode_plain(numbers, mode):
+    return 0, [PLAIN]
+
+
+def say_mode_keyed(numbers, key, mode):
+    number, made = blake3.keyed(key)
+    return number, [key, mode_bytes(*made)] if made else None
+
+
+def say_digest(numbers, digest, data, out):
     return (6, None) if len(out) < NODE else (0, [data, digest(data) + out[NODE:]])
 
 
@@ -53,40 +64,40 @@ def say_leaf_count(numbers, leaves):
     return number, [u64(value)]
 
 
-def say_append(numbers, record, nodes, new_size, hashes):
+def say_append(numbers, digest, record, nodes, new_size, hashes):
     buffer = bytearray(nodes)
     answer = log.append(*numbers, record, buffer, digest)
     return answer.number, [record, bytes(buffer), u64(answer.size), u64(answer.hashes)]
 
 
-def say_root(numbers, nodes, out):
+def say_root(numbers, digest, nodes, out):
     number, top = log.root(*numbers, nodes, digest)
     if number == 0 and len(out) < NODE:
         number = 6
     return number, [nodes, top + out[NODE:]]
 
 
-def say_letter_write(numbers, record, nodes, out, length):
+def say_letter_write(numbers, digest, record, nodes, out, length):
     buffer = bytearray(out)
     answer = letters.write_letter(*numbers, record, nodes, buffer, digest)
     return answer.number, [record, nodes, bytes(buffer), u64(answer.length)]
 
 
-def say_letter_check(numbers, top, letter, index, record_at, record_len):
+def say_letter_check(numbers, digest, top, letter, index, record_at, record_len):
     answer = letters.check_letter(*numbers, top, letter, digest)
     return answer.number, [top, letter, u64(answer.index), u64(answer.start), u64(answer.length)]
 
 
-def say_find(numbers, nodes, record, letter, first, second, found):
+def say_find(numbers, digest, nodes, record, letter, first, second, found):
     ours, theirs = bytearray(first), bytearray(second)
     answer = finder.find(*numbers, record, nodes, letter, ours, theirs, digest)
     kind = {None: 0, "same": 1, "records": 2, "pair": 3}[answer.outcome]
     return answer.number, [nodes, record, letter, bytes(ours), bytes(theirs), u32(kind)]
 
 
-def say_store_leaf(numbers, record, out, length):
+def say_store_leaf(numbers, digest, record, out, length):
     buffer = bytearray(out)
-    number, written = stored.write_stored_leaf(record, buffer)
+    number, written = stored.write_stored_leaf(record, buffer, digest)
     return number, [record, bytes(buffer), u64(written)]
 
 
@@ -106,6 +117,8 @@ def say_read_node(numbers, data, kind, out, record_at, record_len):
 # A call: what the second program says of it, and the numbers of its order that an input can have. 15 is none: no size and index needs so many items.
 Call = namedtuple("Call", "say order")
 CALLS = {
+    "mode_plain": Call(say_mode_plain, (0,)),
+    "mode_keyed": Call(say_mode_keyed, (0, 24)),
     "digest": Call(say_digest, (0, 6)),
     "size": Call(say_size, (0, 2)),
     "leaf_position": Call(say_leaf_position, (0, 5)),
@@ -121,10 +134,15 @@ CALLS = {
 }
 
 
+# The rows of the table: a call, and whether its mode is keyed.
+ROWS = [(name, keyed) for name in CALLS for keyed in ((False, True) if name in MODED else (False,))]
+
+
 def said(case):
-    """The answer of the second program. A refusal leaves every part as it was."""
-    number, parts = CALLS[case.call].say(case.numbers, *case.parts)
-    return Answer(number, parts, False) if number == 0 else refused(number, case)
+    """The answer of the second program. A refusal leaves every part as it was, and so does every call the mode that it reads."""
+    mode, given = (case.parts[:1], case.parts[1:]) if case.call in MODED else ([], case.parts)
+    number, parts = CALLS[case.call].say(case.numbers, *map(digest_in, mode), *given)
+    return Answer(number, [*mode, *parts], False) if number == 0 else refused(number, case)
 
 
 # ---- comparing
@@ -140,12 +158,13 @@ def reported(given, at, case, lines):
 
 
 def self_test(bridge, given):
-    """For each call one case of each number: every part of the second program's answer made wrong in turn, and each wrong answer noticed."""
-    noticed, unseen = [], {(name, number) for name, call in CALLS.items() for number in call.order}
+    """For each row one case of each number: every part of the second program's answer made wrong in turn, and each wrong answer noticed."""
+    noticed, unseen = [], {(row, number) for row in ROWS for number in CALLS[row[0]].order}
     for at, case in enumerate(cases(given.seed, given.rounds)):
         right = said(case)
-        if (case.call, right.number) in unseen:
-            unseen.remove((case.call, right.number))
+        met = (case.call, is_keyed(case)), right.number
+        if met in unseen:
+            unseen.remove(met)
             ours = bridge.ask(at, case)
             if reported(given, at, case, differences(case, ours, right)):
                 return False
@@ -159,11 +178,16 @@ def self_test(bridge, given):
     return all(noticed)
 
 
+def row_name(row):
+    """The name of a row."""
+    return f"keeper_{row[0]}" + (", keyed" if row[1] else "")
+
+
 def table(counts):
-    """How many answers of each call and number were compared."""
-    for name in CALLS:
-        row = {number: count for (call, number), count in counts.items() if call == name}
-        yield f"{'keeper_' + name:22}{sum(row.values()):6}   " + "  ".join(f"{number}: {row[number]}" for number in sorted(row))
+    """How many answers of each row and number were compared."""
+    for row in ROWS:
+        each = {number: count for (of, number), count in counts.items() if of == row}
+        yield f"{row_name(row):28}{sum(each.values()):6}   " + "  ".join(f"{number}: {each[number]}" for number in sorted(each))
 
 
 def compare(bridge, given):
@@ -177,7 +201,7 @@ def compare(bridge, given):
             theirs = made_wrong(theirs, 0)
         if reported(given, at, case, differences(case, bridge.ask(at, case), theirs)):
             return False
-        counts[case.call, theirs.number] += 1
+        counts[(case.call, is_keyed(case)), theirs.number] += 1
         if given.only is not None:
             print("\n".join([f"keeper_{case.call}, case {at} of seed {given.seed}: both answer {theirs.number}", *lines_of(case, True)]))
     return finish(counts, given)
@@ -188,7 +212,7 @@ def finish(counts, given):
     if given.only is not None:
         return sum(counts.values()) == 1
     print("\n".join(table(counts)))
-    unmet = [f"keeper_{name} {number}" for name, call in CALLS.items() for number in call.order if not counts[name, number]]
+    unmet = [f"{row_name(row)} {number}" for row in ROWS for number in CALLS[row[0]].order if not counts[row, number]]
     print(f"outside: {sum(counts.values())} answers of seed {given.seed} are the same" + "".join(f"\n  never met: {line}" for line in unmet))
     return not unmet
 
@@ -203,7 +227,7 @@ def main():
     parser.add_argument("--bridge", help="a bridge that is built already")
     given = parser.parse_args()
     bridge = Bridge(given.bridge or build())
-    good = given.only is not None or self_test(bridge, given)
+    good = given.only is not None or (layout_agrees(bridge) and self_test(bridge, given))
     if good and not given.self_test:
         good = compare(bridge, given)
     return bridge.close() == 0 and good

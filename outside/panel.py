@@ -1,8 +1,10 @@
 #!/usr/bin/env python3
-"""The panel's program held to vectors/panel.json: run on each input, at once and in pieces, and what it writes compared with the file's number.
+"""A panel's program held to its file of vectors/, panel.json or panel-keyed.json: run on each input, and its number compared with the file's.
 
-    panel.py WORD..                the words that start the program
-    panel.py --self-test WORD..    only try that a wrong number is noticed (each run begins with this)
+An input is given at once, and some in pieces.
+
+    panel.py PROGRAM WORD..                which program it is, panel or keyed_panel, and the words that start it
+    panel.py --self-test PROGRAM WORD..    only try that a wrong number is noticed (each run begins with this)
 
 Exit status: 0 where all agree; 1 where one differs, which is printed.
 """
@@ -36,11 +38,11 @@ def run_panel(words, data, pieces):
         return program.stdout.read()
 
 
-def runs():
+def runs(program):
     """A name, the input, in how many pieces it is given, and the number. The first input of each number is given in pieces too."""
     seen = set()
     for vector in vectors():
-        if vector.call == "panel":
+        if vector.call == program:
             data, number = vector.given["input"], vector.answer["number"]
             first = number not in seen and len(data) >= IN_PIECES
             seen |= {number} if first else set()
@@ -48,33 +50,34 @@ def runs():
                 yield f"{vector.name}, in {pieces} pieces" if pieces > 1 else vector.name, data, pieces, number
 
 
-def agrees(words, name, data, pieces, number):
+def agrees(program, words, name, data, pieces, number):
     """Whether the program writes the number and a newline, and nothing else."""
     wrote, expected = run_panel(words, data, pieces), f"{number}\n".encode()
     if wrote != expected:
-        print(f"panel, {name}: wrote {wrote}, but {expected} is expected")
+        print(f"{program}, {name}: wrote {wrote}, but {expected} is expected")
     return wrote == expected
 
 
-def self_test(words):
+def self_test(program, words):
     """A wrong number is noticed."""
-    _, data, pieces, number = next(runs())
+    _, data, pieces, number = next(runs(program))
     noticed = run_panel(words, data, pieces) != f"{number + 1}\n".encode()
-    print(f"panel: a wrong number is {'noticed' if noticed else 'not noticed'}")
+    print(f"{program}: a wrong number is {'noticed' if noticed else 'not noticed'}")
     return noticed
 
 
 def main():
     parser = argparse.ArgumentParser(description=__doc__, formatter_class=argparse.RawDescriptionHelpFormatter)
     parser.add_argument("--self-test", action="store_true", help="only try that a wrong number is noticed")
+    parser.add_argument("program", choices=("panel", "keyed_panel"), help="which program it is")
     parser.add_argument("words", nargs=argparse.REMAINDER, help="what starts the program")
     given = parser.parse_args()
-    noticed = self_test(given.words)
+    noticed = self_test(given.program, given.words)
     if not noticed or given.self_test:
         return noticed
-    results = [agrees(given.words, *run) for run in runs()]
-    numbers = sorted({number for _, _, _, number in runs()})
-    print(f"panel: {results.count(True)} of {len(results)} verdicts agree, with the numbers {' '.join(map(str, numbers))}")
+    results = [agrees(given.program, given.words, *run) for run in runs(given.program)]
+    numbers = sorted({number for _, _, _, number in runs(given.program)})
+    print(f"{given.program}: {results.count(True)} of {len(results)} verdicts agree, with the numbers {' '.join(map(str, numbers))}")
     return all(results)
 
 

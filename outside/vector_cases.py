@@ -4,10 +4,11 @@ from collections import namedtuple
 from pathlib import Path
 
 from bridge import Answer, refused
-from calls import append_case, check_case, digest_case, find_case, inner_case, leaf_case, number_case, read_case, root_case, u32, u64, write_case
+from calls import (append_case, check_case, digest_case, find_case, inner_case, leaf_case, mode_bytes, mode_keyed_case, mode_plain_case, number_case,
+                   read_case, root_case, u32, u64, write_case)
 
 VECTORS = Path(__file__).resolve().parent.parent / "vectors"
-PUBLISHED = "blake3-published.txt"
+PUBLISHED, PUBLISHED_KEY = "blake3-published.txt", b"whats the Elvish word for friend"
 NODE = 32
 # A vector: its file, its name, the call, what is given and the answer, with bytes and numbers as Python has them.
 Vector = namedtuple("Vector", "file name call given answer")
@@ -18,7 +19,7 @@ def octets(form):
     if isinstance(form, list):
         return b"".join(map(octets, form))
     if isinstance(form, dict):
-        return bytes((form["start"] + i) % 251 for i in range(form["length"]))
+        return (bytes(range(251)) * (2 + form["length"] // 251))[form["start"]:][:form["length"]]
     return bytes.fromhex(form)
 
 
@@ -30,7 +31,7 @@ def each(kind):
 # What the fields hold, where it is not bytes.
 KINDS = {
     **dict.fromkeys(("number", "size", "new_size", "hashes", "leaves", "index", "position", "record_at", "room", "first_room",
-                     "second_room"), int),
+                     "second_room", "keyed"), int),
     **dict.fromkeys(("sizes", "hashes_each"), each(int)),
     **dict.fromkeys(("records", "roots"), each(octets)),
     **dict.fromkeys(("kind", "found"), str),
@@ -48,9 +49,15 @@ def published():
     for line in (VECTORS / PUBLISHED).read_text().splitlines():
         if not line.startswith("#"):
             length, plain, keyed = line.split()
-            data = octets({"start": 0, "length": int(length)})
-            yield Vector(PUBLISHED, f"{length} bytes", "digest", {"input": data}, {"number": 0, "digest": octets(plain)})
-            yield Vector(PUBLISHED, f"{length} bytes, keyed", "keyed_digest", {"input": data}, {"number": 0, "digest": octets(keyed)})
+            given = {"input": octets({"start": 0, "length": int(length)})}
+            yield Vector(PUBLISHED, f"{length} bytes", "digest", given, {"number": 0, "digest": octets(plain)})
+            under = {"key": PUBLISHED_KEY, **given}
+            yield Vector(PUBLISHED, f"{length} bytes, keyed", "keyed_digest", under, {"number": 0, "digest": octets(keyed)})
+
+
+def read_vector(file, case):
+    """A case of a file, read."""
+    return Vector(file, case["name"], case["call"], fields(case["given"]), fields(case["answer"]))
 
 
 def vectors():
@@ -58,7 +65,12 @@ def vectors():
     yield from published()
     for path in sorted(VECTORS.glob("*.json")):
         for case in json.loads(path.read_text())["cases"]:
-            yield Vector(path.name, case["name"], case["call"], fields(case["given"]), fields(case["answer"]))
+            yield read_vector(path.name, case)
+
+
+def mode_in(given):
+    """The mode that a vector gives, as C has it: plain where there is no key, and else of number 1 where it names no other."""
+    return mode_bytes(given.get("keyed", 1), given["key"]) if "key" in given else mode_bytes(0, bytes(32))
 
 
 def filled(out, data):
@@ -74,8 +86,16 @@ def asked_once(case, answer, results):
     return [(case, Answer(0, [*case.parts[:-len(last)], *last], False))]
 
 
+def plain_asked(given, answer):
+    return asked_once(mode_plain_case(), answer, lambda: [mode_in({})])
+
+
+def keyed_asked(given, answer):
+    return asked_once(mode_keyed_case(given["key"]), answer, lambda: [mode_in(given)])
+
+
 def digest_asked(given, answer):
-    return asked_once(digest_case(given["input"], NODE), answer, lambda: [answer["digest"]])
+    return asked_once(digest_case(given["input"], NODE, mode_in(given)), answer, lambda: [answer["digest"]])
 
 
 def number_asked(call, name, result):
@@ -84,12 +104,12 @@ def number_asked(call, name, result):
 
 
 def append_asked(given, answer):
-    case = append_case(given["size"], given["record"], given["nodes"])
+    case = append_case(given["size"], given["record"], given["nodes"], mode_in(given))
     return asked_once(case, answer, lambda: [answer["nodes"], u64(answer["new_size"]), u64(answer["hashes"])])
 
 
 def root_asked(given, answer):
-    return asked_once(root_case(given["size"], given["nodes"], NODE), answer, lambda: [answer["root"]])
+    return asked_once(root_case(given["size"], given["nodes"], NODE, mode_in(given)), answer, lambda: [answer["root"]])
 
 
 def log_asked(given, answer):
@@ -99,33 +119,39 @@ def log_asked(given, answer):
     for record, new_size, count, top in zip(given["records"], answer["sizes"], answer["hashes_each"], answer["roots"], strict=True):
         before, after = (nodes[:NODE * of] + beyond[NODE * of:] for of in (size, new_size))
         one = {"number": answer["number"], "nodes": after, "new_size": new_size, "hashes": count, "root": top}
-        asked += append_asked({"size": size, "record": record, "nodes": before}, one) + root_asked({"size": new_size, "nodes": after}, one)
+        asked += append_asked({**given, "size": size, "record": record, "nodes": before}, one)
+        asked += root_asked({**given, "size": new_size, "nodes": after}, one)
         size = new_size
     return asked
 
 
 def write_asked(given, answer):
-    case = write_case(given["size"], given["index"], given["record"], given["nodes"], given["room"])
-    return asked_once(case, answer, lambda: [filled(case.parts[2], answer["letter"]), u64(len(answer["letter"]))])
+    case = write_case(given["size"], given["index"], given["record"], given["nodes"], given["room"], mode_in(given))
+    return asked_once(case, answer, lambda: [filled(case.parts[-2], answer["letter"]), u64(len(answer["letter"]))])
 
 
 def check_asked(given, answer):
-    case = check_case(given["size"], given["root"], given["letter"])
+    case = check_case(given["size"], given["root"], given["letter"], mode_in(given))
     return asked_once(case, answer, lambda: [u64(answer["index"]), u64(answer["record_at"]), u64(len(answer["record"]))])
 
 
 def find_asked(given, answer):
     rooms = given["first_room"], given["second_room"]
-    case = find_case(given["size"], given["nodes"], given["record"], given["letter"], rooms)
+    case = find_case(given["size"], given["nodes"], given["record"], given["letter"], rooms, mode_in(given))
     return asked_once(case, answer, lambda: [u32({"same": 1, "records": 2, "pair": 3}[answer["found"]])])
 
 
-def written_asked(make, name):
+def written_asked(case, answer):
     """The questions of a writer of stored nodes."""
-    def asked(given, answer):
-        case = make(given[name], given["room"])
-        return asked_once(case, answer, lambda: [filled(case.parts[1], answer["node"]), u64(len(answer["node"]))])
-    return asked
+    return asked_once(case, answer, lambda: [filled(case.parts[-2], answer["node"]), u64(len(answer["node"]))])
+
+
+def leaf_asked(given, answer):
+    return written_asked(leaf_case(given["record"], given["room"], mode_in(given)), answer)
+
+
+def inner_asked(given, answer):
+    return written_asked(inner_case(given["digest"], given["room"]), answer)
 
 
 def read_asked(given, answer):
@@ -136,7 +162,10 @@ def read_asked(given, answer):
 
 # What a vector of each call asks of the library.
 ASKED = {
+    "mode_plain": plain_asked,
+    "mode_keyed": keyed_asked,
     "digest": digest_asked,
+    "keyed_digest": digest_asked,
     "size": number_asked("size", "leaves", "size"),
     "leaf_position": number_asked("leaf_position", "index", "position"),
     "leaf_count": number_asked("leaf_count", "size", "leaves"),
@@ -146,14 +175,19 @@ ASKED = {
     "letter_write": write_asked,
     "letter_check": check_asked,
     "find": find_asked,
-    "store_leaf": written_asked(leaf_case, "record"),
-    "store_inner": written_asked(inner_case, "digest"),
+    "store_leaf": leaf_asked,
+    "store_inner": inner_asked,
     "read_node": read_asked,
 }
 # Vectors that no call of the library answers, and why.
-UNASKED = {"keyed_digest": "no call takes a key", "panel": "outside/panel.sh runs the program on them"}
+UNASKED = dict.fromkeys(("panel", "keyed_panel"), "outside/panel.sh runs the program on them")
+
+
+def cases_of(given):
+    """Every case that these vectors ask."""
+    return [case for vector in given if vector.call in ASKED for case, _ in ASKED[vector.call](vector.given, vector.answer)]
 
 
 def cases_in_vectors():
-    """Every case that the vectors ask."""
-    return [case for vector in vectors() if vector.call in ASKED for case, _ in ASKED[vector.call](vector.given, vector.answer)]
+    """Every case that the files ask."""
+    return cases_of(vectors())

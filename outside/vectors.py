@@ -14,21 +14,21 @@ import sys
 from collections import Counter
 
 from bridge import Bridge, build, differences, lines_of
-from calls import PARTS, Case, digest_case, flipped
-from vector_cases import ASKED, NODE, UNASKED, vectors
+from calls import NO_CALLS, PARTS, Case, digest_case, flipped
+from vector_cases import ASKED, NODE, UNASKED, mode_in, vectors
 
 
-def digest_by(bridge, data):
-    """The library's digest of the data."""
-    answer = bridge.ask(0, digest_case(data, NODE))
-    return answer.parts[1] if answer else b""
+def digest_by(bridge, data, mode):
+    """The library's digest of the data in a mode."""
+    answer = bridge.ask(0, digest_case(data, NODE, mode))
+    return answer.parts[-1] if answer else b""
 
 
-def folded(bridge, nodes):
+def folded(bridge, nodes, mode):
     """Nodes folded from the right (RULES 7.4), by the library's digest."""
     so_far = nodes[-1]
     for left in reversed(nodes[:-1]):
-        so_far = digest_by(bridge, left + so_far)
+        so_far = digest_by(bridge, left + so_far, mode)
     return so_far
 
 
@@ -40,7 +40,7 @@ def wrong_items(bridge, given, answer):
         yield f"items: {len(items)} positions, which are not as many as the letter has"
     for place, positions in enumerate(items):
         shown = answer["letter"][start + NODE * place:][:NODE]
-        if folded(bridge, [nodes[NODE * position:][:NODE] for position in positions]) != shown:
+        if folded(bridge, [nodes[NODE * position:][:NODE] for position in positions], mode_in(given)) != shown:
             yield f"items: item {place} of the letter is not what stands at {positions}"
 
 
@@ -126,7 +126,7 @@ def told(agree, total, unasked, met):
         print(f"vectors/{name}: {agree[name]} of {total[name]} agree")
     for call, count in unasked.items():
         print(f"vectors: {count} {call} vectors are not asked here: {UNASKED[call]}")
-    unmet = sorted(set(PARTS) - {"stray"} - met)
+    unmet = sorted(set(PARTS) - set(NO_CALLS) - met)
     print(f"vectors: {agree.total()} of {total.total()} agree" + "".join(f"\n  never met: keeper_{call}" for call in unmet))
     return agree == total and bool(total) and not unmet
 

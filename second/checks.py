@@ -3,17 +3,18 @@ import zlib
 from collections import Counter
 from pathlib import Path
 
-from expected.given import counting_bytes, flips_of, letter_in, log_of, run_record
+from expected.given import KEYS, LEAGUES, counting_bytes, flips_of, letter_in, log_of, record_of, run_record
 from page import check_page
 from portable.orders import check_orders
-from rules.blake3 import PLAIN, digest, keyed
+from rules.blake3 import PLAIN, Mode, digest, keyed
 from rules.finder import PAIR, find, log_inputs
 from rules.letters import LETTER_HEAD, WHOLE_LETTER, check_letter, index_in, items_in, letter_bytes, letter_inputs, letter_of, record_in, size_in
-from rules.log import NODE, append, folded, node, plain_root, root
+from rules.log import NODE, append, folded, node, root, split_root
 from rules.shape import items_of, leaf_count, leaf_position, nodes_of, size_of, trailing_ones
 
 PUBLISHED = Path(__file__).resolve().parent.parent / "vectors" / "blake3-published.txt"
-PUBLISHED_KEY = b"whats the Elvish word for friend"
+# The modes that the rules are tried in, by name.
+MODES = {"plain": PLAIN, "keyed": LEAGUES[0]}
 
 
 def published_figures():
@@ -59,20 +60,21 @@ def check_marked():
     return not wrong
 
 
-def check_logs(most):
-    """Logs of 1 to most records: counts, sizes and positions by two rules each, and the root by the plain rule."""
+def check_logs(most, name):
+    """Logs of 1 to most records in a mode: counts, sizes and positions by two rules each, and the root without positions."""
+    mode = MODES[name]
     buffer, size, leaves, good = bytearray(NODE * nodes_of(most)), 0, [], 0
     for i in range(most):
-        answer = append(size, run_record(i, i), buffer)
-        leaves.append(digest(run_record(i, i)))
+        answer = append(size, run_record(i, i), buffer, mode)
+        leaves.append(mode(run_record(i, i)))
         good += (
             answer == (0, nodes_of(i + 1), 1 + trailing_ones(i))
             and leaf_count(answer.size) == (0, i + 1)
             and node(buffer, nodes_of(i)) == leaves[i]
-            and root(answer.size, buffer) == (0, plain_root(leaves))
+            and root(answer.size, buffer, mode) == (0, split_root(leaves, mode))
         )
         size = answer.size
-    print(f"logs: {good} of {most} keep size, count, leaf position and the plain rule of the root")
+    print(f"logs, {name}: {good} of {most} keep size, count, leaf position, and the root without positions")
     return good == most
 
 
@@ -83,28 +85,61 @@ def marked_letters():
         yield name, items_in(letter_in(leaves, index)[2]), [folded([node(nodes, position) for position in item]) for item in marked]
 
 
-def check_letters(most):
-    """Every letter of logs of 1 to most records is accepted, gives its record and is found the same; the marked letters; the whole letter; flips."""
+def check_letters(most, name):
+    """In a mode every letter of logs of 1 to most records is accepted, gives its record and is found the same; no letter with a bit flipped is."""
+    mode = MODES[name]
     good, buffer, size = 0, bytearray(NODE * nodes_of(most)), 0
     for leaves in range(1, most + 1):
-        size = append(size, run_record(leaves - 1, leaves - 1), buffer).size
+        size = append(size, run_record(leaves - 1, leaves - 1), buffer, mode).size
         for index in range(leaves):
             record = run_record(index, index)
-            letter = letter_of(size, index, record, buffer)
+            letter = letter_of(size, index, record, buffer, mode)
             good += (
-                check_letter(size, root(size, buffer).root, letter) == (0, index, LETTER_HEAD, index)
+                check_letter(size, root(size, buffer, mode).root, letter, mode) == (0, index, LETTER_HEAD, index)
                 and record_in(letter) == record
-                and find(size, record, buffer, letter, bytearray(PAIR), bytearray(PAIR)) == (0, "same")
+                and find(size, record, buffer, letter, bytearray(PAIR), bytearray(PAIR), mode) == (0, "same")
             )
     total = most * (most + 1) // 2
-    print(f"letters: {good} of {total} are accepted, give their record and are found the same")
+    print(f"letters, {name}: {good} of {total} are accepted, give their record and are found the same")
+    size, top, letter = letter_in(7, 2, mode)
+    flipped = [check_letter(size, top, other, mode).number for other in flips_of(letter)]
+    print(f"letters, {name}: of {len(flipped)} with one bit flipped {flipped.count(0)} are accepted")
+    return good == total and flipped.count(0) == 0
+
+
+def check_marked_letters():
+    """The items of the marked letters; the whole letter of one empty record."""
     marked = [name for name, items, digests in marked_letters() if items == digests]
     print(f"letters: the items of {', '.join(marked)} are those at the marked positions")
     whole = letter_of(1, 0, b"", digest(b"")) == WHOLE_LETTER and check_letter(1, digest(b""), WHOLE_LETTER) == (0, 0, LETTER_HEAD, 0)
-    size, top, letter = letter_in(7, 2)
-    flipped = [check_letter(size, top, other).number for other in flips_of(letter)]
-    print(f"letters: of {len(flipped)} with one bit flipped {flipped.count(0)} are accepted")
-    return good == total and len(marked) == 3 and whole and flipped.count(0) == 0
+    return len(marked) == 3 and whole
+
+
+def check_keys():
+    """Keys of every length up to 70; modes of other numbers; a key of zeros, which is not the plain mode."""
+    numbers = [keyed(bytes(length)).number for length in range(71)]
+    taken = numbers == [0 if length == len(KEYS[0]) else 24 for length in range(71)]
+    data, (ours, other) = counting_bytes(1025), LEAGUES
+    plain = {digest(data), *(Mode(0, key)(data) for key in KEYS)}
+    under = {ours(data), *(Mode(1 << bit, KEYS[0])(data) for bit in range(32))}
+    apart = {*plain, *under, other(data), keyed(bytes(len(KEYS[0]))).mode(data)}
+    good = taken and (len(plain), len(under), len(apart)) == (1, 1, 4)
+    print(f"modes: {numbers.count(24)} keys of another length get 24; plain, two keys and a key of zeros have {len(apart)} digests")
+    return good
+
+
+def check_leagues(most):
+    """Every letter of logs of 1 to most records, plain and of two leagues: each in its own mode alone, in another 9 by the checker and the finder."""
+    modes, tried, wrong = (PLAIN, *LEAGUES), 0, 0
+    for of, leaves in ((mode, leaves) for mode in modes for leaves in range(1, most + 1)):
+        size, nodes = log_of(leaves, of)
+        for index, mode in ((index, mode) for index in range(leaves) for mode in modes):
+            letter = letter_of(size, index, record_of(index), nodes, of)
+            found = find(size, record_of(index), nodes, letter, bytearray(PAIR), bytearray(PAIR), mode)
+            tried += 1
+            wrong += {check_letter(size, root(size, nodes, of).root, letter, mode).number, found.number} != {0 if mode == of else 9}
+    print(f"leagues: {tried - wrong} of {tried} letters are accepted in their own mode and get 9 in another")
+    return wrong == 0
 
 
 def toy_digest(data):
@@ -162,10 +197,14 @@ def check():
     """Try the rules on the published figures, on the marked examples and on each other."""
     figures = list(published_figures())
     good = check_mode("plain", PLAIN, [(n, plain) for n, plain, _ in figures])
-    good &= check_mode("keyed", keyed(PUBLISHED_KEY), [(n, with_key) for n, _, with_key in figures])
+    good &= check_mode("keyed", LEAGUES[0], [(n, with_key) for n, _, with_key in figures])
+    good &= check_keys()
     good &= check_marked()
-    good &= check_logs(70)
-    good &= check_letters(20)
+    good &= check_marked_letters()
+    for name, leaves in (("plain", 20), ("keyed", 12)):
+        good &= check_logs(70, name)
+        good &= check_letters(leaves, name)
+    good &= check_leagues(4)
     good &= check_finder(9)
     good &= check_orders()
     good &= check_page()

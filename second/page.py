@@ -2,10 +2,10 @@
 import re
 from pathlib import Path
 
-from expected.given import counting_bytes
+from expected.given import KEYS, LEAGUES, counting_bytes
 from portable.orders import FROM_7, ORDERS
-from rules.blake3 import digest
-from rules.letters import PANEL_HEAD, PANEL_MOST, WHOLE_LETTER, check_letter, letter_bytes, letter_of, panel
+from rules.blake3 import KEY, PLAIN, Mode, digest, keyed, words_of
+from rules.letters import PANEL_HEAD, PANEL_MOST, WHOLE_LETTER, check_letter, keyed_panel, letter_bytes, letter_of, panel
 from rules.log import LONGEST_RECORD, NODE, append, node, root
 from rules.shape import MOST_LEAVES, items_of, leaf_count, leaf_position, nodes_of, size_of
 from rules.stored import stored_inner, stored_leaf
@@ -20,12 +20,23 @@ RECORDS = (b"goal", b"no goal", b"corner")
 ITEMS = (("", 1, 0), ("", 2, 1), ("", 3, 2), ("M14", 5, 2), ("M15", 7, 4), ("M16", 7, 0), ("", 8, 3), ("", 11, 9))
 
 
-def small_log():
-    """The log of section 7.6: its nodes, and the answers of its appends."""
+def small_log(mode=PLAIN):
+    """The log of section 7.6 in a mode: its nodes, and the answers of its appends."""
     nodes, answers = bytearray(NODE * nodes_of(len(RECORDS))), [(0, 0, 0)]
     for record in RECORDS:
-        answers.append(append(answers[-1][1], record, nodes))
+        answers.append(append(answers[-1][1], record, nodes, mode))
     return bytes(nodes), answers[1:]
+
+
+def shown_letter(mode=PLAIN):
+    """The root of that log, and its letter of section 9.7."""
+    nodes, _ = small_log(mode)
+    return root(4, nodes, mode).root, letter_of(4, 1, RECORDS[1], nodes, mode)
+
+
+def noted(mode=PLAIN):
+    """The size and the root of that log, as the panel's program reads them."""
+    return (4).to_bytes(8, "big") + shown_letter(mode)[0]
 
 
 def with_comma(numbers):
@@ -58,6 +69,7 @@ def item_rows():
 
 def order_rows():
     """Rows of section 3."""
+    yield f"| mode of a key | {keyed(b'').number} |"
     for name, call in (("append", "append"), ("root", "root"), ("letter, written", "letter_write")):
         yield f"| {name} | {', '.join(ORDERS[call])} |"
     yield f"| **from 7** | {', '.join(FROM_7)} |"
@@ -74,7 +86,12 @@ def sentences():
     yield f"sizes {with_comma(answer.size for answer in answers)}, hash counts {with_comma(answer.hashes for answer in answers)}."
     yield f"M13: at n = 7 the hash count is {append(nodes_of(7), b'', bytearray(NODE * nodes_of(8))).hashes}:"
     yield f"| letter | {len(WHOLE_LETTER)} bytes | {len(longest):,} bytes (20 + {LONGEST_RECORD:,} + 32 × {NODE}) |"
-    yield f"It reads at most {PANEL_MOST:,} bytes, which is {PANEL_HEAD} and one more than the longest letter"
+    for more in (0, KEY):
+        yield f"It reads at most {more + PANEL_MOST:,} bytes, which is {more + PANEL_HEAD} and one more than the longest letter"
+    yield f"the {KEY} ASCII bytes `{KEYS[0].decode()}`."
+    yield "its first two words are {:08x} and {:08x}.".format(*words_of(KEYS[0]))
+    yield f"the {len(KEYS[1])} bytes from {KEYS[1][0]} up to {KEYS[1][-1]}."
+    yield f"| {keyed(b'').number} | a key is not {KEY} bytes |"
     if PANEL_MOST == PANEL_HEAD + len(longest) + 1 and len(items_of(MOST_LEAVES, 5)) == len(items_of(MOST_LEAVES - 1, 0)) == 32:
         yield f"and {len(items_of(MOST_LEAVES - 1, MOST_LEAVES - 2))} for the last index"
 
@@ -86,21 +103,38 @@ def forgeries(nodes):
 
 
 def example_bytes():
-    """Bytes that stand in the page, in hexadecimal: digests, nodes, letters, the panel's input."""
+    """Bytes that stand in the page, in hexadecimal: digests, nodes, letters, what the panels' programs read."""
+    for mode in (PLAIN, LEAGUES[0]):
+        nodes, _ = small_log(mode)
+        yield from (digest(data, mode) for data in (b"", b"abc", counting_bytes(1024), counting_bytes(1025)))
+        yield from (node(nodes, position) for position in range(4))
+        yield from shown_letter(mode)
     nodes, _ = small_log()
-    yield from (digest(data) for data in (b"", b"abc", counting_bytes(1024), counting_bytes(1025)))
-    yield from (node(nodes, position) for position in range(4))
-    yield from (stored_leaf(RECORDS[0]), stored_inner(node(nodes, 2)), root(4, nodes).root, WHOLE_LETTER)
-    yield letter_of(4, 1, RECORDS[1], nodes)
-    yield (4).to_bytes(8, "big") + root(4, nodes).root
+    yield from (keyed(bytes(KEY)).mode(b""), stored_leaf(RECORDS[0]), stored_inner(node(nodes, 2)), WHOLE_LETTER)
+    yield from (noted(), KEYS[0] + noted(LEAGUES[0]))
     yield from (letter for letter, _, _, _ in forgeries(nodes))
+
+
+def keyed_as_said():
+    """Whether the keyed examples do: keys of other lengths, the letter in other modes, the input of the program for keyed logs."""
+    (key, other), (mode, _) = KEYS, LEAGUES
+    (top, letter), (plain_top, plain_letter) = shown_letter(mode), shown_letter()
+    keys = [keyed(one).number for one in (key[:-1], key + b"\n", key.hex().encode(), b"")]
+    in_modes = [check_letter(4, top, letter, Mode(number, key)).number for number in (1, 2, 2**31, 0)]
+    changed = [bytes([*key[:place], key[place] ^ 1, *key[place + 1:]]) for place in range(KEY)]
+    refused = [check_letter(4, top, letter, keyed(one).mode).number for one in (other, *changed)]
+    refused += [check_letter(4, plain_top, letter).number, check_letter(4, top, plain_letter, mode).number]
+    whole = key + noted(mode) + letter
+    cut = [keyed_panel(whole[:length]) for length in range(len(whole) + 1)]
+    return (keys == [24] * 4 and in_modes == [0, 0, 0, 9] and refused == [9] * (KEY + 3) and len(whole) == 163
+            and cut == [24] * 32 + [12] * 40 + [7] * 91 + [0] and {keyed_panel(one + whole[KEY:]) for one in changed} == {9})
 
 
 def as_said():
     """Whether the examples get the numbers that the page gives them."""
     nodes, _ = small_log()
-    top, letter = root(4, nodes).root, letter_of(4, 1, RECORDS[1], nodes)
-    whole = (4).to_bytes(8, "big") + top + letter
+    top, letter = shown_letter()
+    whole = noted() + letter
     changed = [letter[:place] + bytes([letter[place] ^ 1]) + letter[place + 1:] for place in range(20, len(letter))]
     numbers = [check_letter(4, top, shown).number for shown in (letter[:-1], letter + b"\0", *changed)]
     forged = [(check_letter(size, of, shown).number, check_letter(named, of, shown).number) for shown, size, named, of in forgeries(nodes)]
@@ -143,7 +177,7 @@ def citations_stand(page):
 
 def check_page():
     """Its examples, the numbers that it gives them, and what cites it."""
-    page, told = PAGE.read_text(), as_said()
+    page, told = PAGE.read_text(), as_said() and keyed_as_said()
     if not told:
         print("rules: an example of docs/RULES.md has another number than the page says")
     good = examples_stand(page)

@@ -6,7 +6,7 @@ implementers, in portable/.
 
     second.py check                    try the rules on published figures and marked examples, and on each other
     second.py expect NAME              print what the program crates/NAME must write
-    second.py expect --all             write what each program must write to crates/NAME/stdout, and what the panel reads to its stdin
+    second.py expect --all             write what each program must write to crates/NAME/stdout, and what the panels' programs read to their stdin
     second.py expect --all --verify    compare those files, and change none
     second.py vectors                  write the portable test vectors, vectors/*.json
     second.py vectors --verify         compare those files, and change none
@@ -19,6 +19,7 @@ from checks import check
 from expected.digest_input import expect_digest_input
 from expected.digest_run import expect_digest_run
 from expected.finder_run import expect_finder_run
+from expected.keyed_panel import expect_keyed_panel, keyed_panel_stdin
 from expected.letter_run import expect_letter_run
 from expected.log_run import expect_log_run
 from expected.panel import expect_panel, panel_stdin
@@ -31,6 +32,7 @@ EXPECTED = {
     "digest_input": expect_digest_input,
     "digest_run": expect_digest_run,
     "finder_run": expect_finder_run,
+    "keyed_panel": expect_keyed_panel,
     "letter_run": expect_letter_run,
     "log_run": expect_log_run,
     "panel": expect_panel,
@@ -40,6 +42,7 @@ EXPECTED = {
 # What is stored for the programs: a file, and what makes its bytes.
 STORED = {f"crates/{name}/stdout": lambda made=made: made().encode() for name, made in EXPECTED.items()}
 STORED["crates/panel/stdin"] = panel_stdin
+STORED["crates/keyed_panel/stdin"] = keyed_panel_stdin
 
 
 def expect_one(name):

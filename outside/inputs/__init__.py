@@ -1,21 +1,27 @@
 """The inputs that outside/outside.py puts before the calls for C: true ones, damaged ones, random ones, each case from its number alone.
 
 The fixed cases are the same for every seed: numbers beside the edges, letters and stored nodes with every byte damaged, logs of every length,
-stored nodes of every form. None stands twice, and none in vectors/, which have each refusal alone and every two at once. The random ones take a
-true input and change some of its parts, or none.
+stored nodes of every form, modes of every kind. None stands twice, and none in vectors/, which have each refusal alone and every two at once. The
+random ones take a true input and change some of its parts, or none. What works out a digest is tried plain and under a key.
 """
 import itertools
 
-from inputs.chance import Chance, random_case
+from inputs.chance import Chance, random_case, random_keyed_cases
 from inputs.fixed import fixed_digests, fixed_forms, fixed_letters, fixed_logs, fixed_nodes, fixed_numbers, fixed_roots
-from inputs.world import World
+from inputs.modes import fixed_any_modes, fixed_keys, fixed_modes, fixed_orders
+from inputs.world import LEAGUES, World
 from vector_cases import cases_in_vectors
 
 
-def fixed_cases(world):
+def fixed_in(world):
+    """The fixed cases that work out a digest, in the world's mode."""
+    return itertools.chain(fixed_digests(world), fixed_letters(world), fixed_logs(world), fixed_roots(world))
+
+
+def fixed_cases(plain, keyed):
     """The fixed cases."""
-    yield from itertools.chain(fixed_numbers(), fixed_digests(world), fixed_letters(world), fixed_logs(world), fixed_roots(world))
-    yield from itertools.chain(fixed_nodes(world), fixed_forms(world))
+    yield from itertools.chain(fixed_numbers(), fixed_in(plain), fixed_nodes(plain), fixed_forms(plain))
+    yield from itertools.chain(fixed_keys(), fixed_modes(plain), fixed_any_modes(plain), fixed_any_modes(keyed), fixed_orders(), fixed_in(keyed))
 
 
 def each_once(given, seen):
@@ -30,7 +36,8 @@ def each_once(given, seen):
 
 def cases(seed, rounds):
     """All cases of a seed in their order: the fixed ones, which are the same for every seed and no copies of the vectors, and the random ones."""
-    world = World()
-    yield from each_once(fixed_cases(world), cases_in_vectors())
+    plain, keyed = World(), World(LEAGUES[0])
+    yield from each_once(fixed_cases(plain, keyed), cases_in_vectors())
     for turn in range(rounds):
-        yield random_case(Chance(f"{seed}/{turn}"), world)
+        yield random_case(Chance(f"{seed}/{turn}"), plain)
+        yield from random_keyed_cases(Chance(f"{seed}/{turn}"), Chance(f"{seed}/{turn}/mode"), keyed)

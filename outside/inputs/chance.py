@@ -2,8 +2,8 @@
 import random
 from collections import namedtuple
 
-from calls import Case, flipped
-from inputs.world import EDGES, LEAVES, LENGTHS, digest
+from calls import PLAIN, Case, flipped
+from inputs.world import EDGES, LEAGUES, LEAVES, LENGTHS
 from rules import letters, shape, stored
 from rules.finder import PAIR
 from rules.log import LONGEST_RECORD, NODE
@@ -118,7 +118,7 @@ def any_given(chance, world):
 
 
 def random_digest(chance, world, given):
-    return Case("digest", (), [given.record, chance.out(NODE)])
+    return Case("digest", (), [world.mode, given.record, chance.out(NODE)])
 
 
 def random_number(chance, world, given):
@@ -128,23 +128,24 @@ def random_number(chance, world, given):
 
 def random_append(chance, world, given):
     nodes = any_nodes(chance, world, given.leaves, NODE * nodes_of(given.leaves + 1))
-    return Case("append", (given.size,), [given.record, nodes, chance.variable(), chance.variable()])
+    return Case("append", (given.size,), [world.mode, given.record, nodes, chance.variable(), chance.variable()])
 
 
 def random_root(chance, world, given):
-    return Case("root", (given.size,), [any_nodes(chance, world, given.leaves, NODE * nodes_of(given.leaves)), chance.out(NODE)])
+    nodes = any_nodes(chance, world, given.leaves, NODE * nodes_of(given.leaves))
+    return Case("root", (given.size,), [world.mode, nodes, chance.out(NODE)])
 
 
 def random_letter_write(chance, world, given):
     index = chance.often(given.index, given.leaves, chance.randrange(given.leaves), chance.number())
     nodes = any_nodes(chance, world, given.leaves, NODE * nodes_of(given.leaves))
     out = chance.out(len(world.letter(given.leaves, given.index)))
-    return Case("letter_write", (given.size, index), [given.record, nodes, out, chance.variable()])
+    return Case("letter_write", (given.size, index), [world.mode, given.record, nodes, out, chance.variable()])
 
 
 def random_letter_check(chance, world, given):
     top, letter = world.root(given.leaves), any_letter(chance, world, given.leaves, given.index)
-    return Case("letter_check", (given.size,), [chance.bytes_like(top), letter, *(chance.variable() for _ in range(3))])
+    return Case("letter_check", (given.size,), [world.mode, chance.bytes_like(top), letter, *(chance.variable() for _ in range(3))])
 
 
 def random_large_check(chance, world, given):
@@ -153,27 +154,27 @@ def random_large_check(chance, world, given):
     index = chance.randrange(leaves)
     items = [chance.randbytes(NODE) for _ in shape.items_of(leaves, index)]
     letter = letters.letter_bytes(nodes_of(leaves), index, chance.randbytes(chance.randrange(40)), items)
-    top = letters.worked_root(leaves, letter, digest)
+    top = letters.worked_root(leaves, letter, world.digest)
     shown = chance.often(letter, with_field(chance, letter), with_items(chance, letter), chance.damage(letter))
-    return Case("letter_check", (nodes_of(leaves),), [chance.bytes_like(top), shown, *(chance.variable() for _ in range(3))])
+    return Case("letter_check", (nodes_of(leaves),), [world.mode, chance.bytes_like(top), shown, *(chance.variable() for _ in range(3))])
 
 
 def random_find(chance, world, given):
     nodes = any_nodes(chance, world, given.leaves, NODE * nodes_of(given.leaves))
     letter = any_letter(chance, world, given.leaves, given.index)
-    return Case("find", (given.size,), [nodes, given.record, letter, chance.out(PAIR), chance.out(PAIR), chance.randbytes(4)])
+    return Case("find", (given.size,), [world.mode, nodes, given.record, letter, chance.out(PAIR), chance.out(PAIR), chance.randbytes(4)])
 
 
 def random_store_leaf(chance, world, given):
-    return Case("store_leaf", (), [given.record, chance.out(37 + len(given.record)), chance.variable()])
+    return Case("store_leaf", (), [world.mode, given.record, chance.out(37 + len(given.record)), chance.variable()])
 
 
 def random_store_inner(chance, world, given):
-    return Case("store_inner", (), [chance.bytes_like(digest(given.record)), chance.out(33), chance.variable()])
+    return Case("store_inner", (), [chance.bytes_like(world.digest(given.record)), chance.out(33), chance.variable()])
 
 
 def random_read_node(chance, world, given):
-    data = chance.often(stored.stored_leaf(given.record[:LONGEST_RECORD]), stored.stored_inner(digest(given.record)))
+    data = chance.often(stored.stored_leaf(given.record[:LONGEST_RECORD], world.digest), stored.stored_inner(world.digest(given.record)))
     return Case("read_node", (), [chance.bytes_like(data), chance.randbytes(4), chance.out(NODE), chance.variable(), chance.variable()])
 
 
@@ -182,9 +183,31 @@ RANDOM = {
     random_digest: 1, random_number: 2, random_append: 3, random_root: 2, random_letter_write: 3, random_letter_check: 3,
     random_large_check: 1, random_find: 4, random_store_leaf: 1, random_store_inner: 1, random_read_node: 1,
 }
+# Those of calls that work out no digest, and have no mode.
+NO_MODE = (random_number, random_store_inner, random_read_node)
+
+
+def any_kind(chance):
+    """A kind of random case."""
+    kind, = chance.choices(list(RANDOM), RANDOM.values())
+    return kind
 
 
 def random_case(chance, world):
     """A case of any call."""
-    kind, = chance.choices(list(RANDOM), RANDOM.values())
-    return kind(chance, world, any_given(chance, world))
+    return any_kind(chance)(chance, world, any_given(chance, world))
+
+
+def any_mode(chance, mode):
+    """A keyed mode: often the one that is given, else one with another number, of another key, or plain with a key that means nothing."""
+    key = mode[4:]
+    other = (1 << chance.randrange(32)).to_bytes(4, "little")
+    return chance.often(mode, other + key, other + key, *LEAGUES, bytes(4) + key, PLAIN)
+
+
+def random_keyed_cases(chance, own, world):
+    """The case of the same choices in a keyed world, where it has a mode, which is chosen by itself."""
+    kind = any_kind(chance)
+    if kind not in NO_MODE:
+        case = kind(chance, world, any_given(chance, world))
+        yield case._replace(parts=[any_mode(own, world.mode), *case.parts[1:]])

@@ -27,7 +27,7 @@ def fixed_numbers():
 def fixed_digests(world):
     """An output that is not of 32 bytes, whatever is hashed."""
     for record, room in itertools.product((b"", world.records[5], world.records[77]), (0, NODE - 1, NODE + 1)):
-        yield digest_case(record, room)
+        yield digest_case(record, room, world.mode)
 
 
 def fixed_letters(world):
@@ -37,15 +37,15 @@ def fixed_letters(world):
         letter = world.letter(leaves, index)
         shown = damaged(letter) if len(record) < LONGEST_RECORD else (letter[:-1], letter + b"\0", flipped(letter, 16), flipped(letter, 5000))
         for other in (letter, *shown):
-            yield check_case(size, top, other)
-            yield find_case(size, nodes, record, other)
+            yield check_case(size, top, other, world.mode)
+            yield find_case(size, nodes, record, other, mode=world.mode)
         for place in range(NODE):
-            yield check_case(size, flipped(top, place), letter)
+            yield check_case(size, flipped(top, place), letter, world.mode)
         for place in range(0, min(len(nodes), 800), 7):
-            yield find_case(size, flipped(nodes, place), record, letter)
-            yield write_case(size, index, record, flipped(nodes, place), len(letter))
+            yield find_case(size, flipped(nodes, place), record, letter, mode=world.mode)
+            yield write_case(size, index, record, flipped(nodes, place), len(letter), world.mode)
         for room in range(LETTER_HEAD, len(letter), max(NODE, len(letter) // 8)):
-            yield write_case(size, index, record, nodes, room)
+            yield write_case(size, index, record, nodes, room, world.mode)
 
 
 def fixed_logs(world):
@@ -54,16 +54,16 @@ def fixed_logs(world):
         size, record = nodes_of(leaves), world.records[leaves]
         room = NODE * nodes_of(leaves + 1)
         for spare in (-1, 0, 1, 40):
-            yield append_case(size, record, world.nodes(leaves).ljust(room + spare, b"\x3c")[:room + spare])
+            yield append_case(size, record, world.nodes(leaves).ljust(room + spare, b"\x3c")[:room + spare], world.mode)
             if leaves > 0:
-                yield root_case(size, world.nodes(leaves).ljust(NODE * size + spare, b"\x3c")[:NODE * size + spare], NODE)
+                yield root_case(size, world.nodes(leaves).ljust(NODE * size + spare, b"\x3c")[:NODE * size + spare], NODE, world.mode)
 
 
 def fixed_roots(world):
     """The root into an output that is not of 32 bytes, which only C has (RULES 4.4): alone, and beside each other refusal."""
     size, nodes = nodes_of(7), world.nodes(7)
     for (named, lent), room in itertools.product(((size, nodes), (2, nodes), (0, nodes), (size, nodes[:-1])), (0, NODE - 1, NODE + 1)):
-        yield root_case(named, lent, room)
+        yield root_case(named, lent, room, world.mode)
 
 
 def fixed_nodes(world):

@@ -1,4 +1,5 @@
-"""What the programs are given: bytes, records, logs, letters; and how numbers are printed."""
+"""What the programs are given: bytes, keys, records, logs, letters; and how numbers are printed."""
+from rules.blake3 import PLAIN, keyed
 from rules.letters import letter_of
 from rules.log import NODE, append, root
 from rules.shape import nodes_of
@@ -6,6 +7,9 @@ from rules.shape import nodes_of
 # The lengths of the records, over and over; and the bytes that a letter with a record of at most 200 is given.
 LENGTHS = (0, 1, 31, 200, 16384)
 LETTER_ROOM = 400
+# The keys of two leagues, the first being that of BLAKE3's published figures; and their modes.
+KEYS = (b"whats the Elvish word for friend", bytes(range(200, 232)))
+LEAGUES = tuple(keyed(key).mode for key in KEYS)
 
 
 def counting_bytes(length):
@@ -23,18 +27,18 @@ def record_of(number):
     return run_record(number, LENGTHS[number % len(LENGTHS)])
 
 
-def log_of(count):
+def log_of(count, digest=PLAIN):
     """A log of so many records: its size and nodes."""
     buffer, size = bytearray(NODE * nodes_of(count)), 0
     for number in range(count):
-        size = append(size, record_of(number), buffer).size
+        size = append(size, record_of(number), buffer, digest).size
     return size, bytes(buffer)
 
 
-def letter_in(leaves, index):
+def letter_in(leaves, index, digest=PLAIN):
     """A log of so many records, and one of its letters: the size, the root, the letter."""
-    size, nodes = log_of(leaves)
-    return size, root(size, nodes).root, letter_of(size, index, record_of(index), nodes)
+    size, nodes = log_of(leaves, digest)
+    return size, root(size, nodes, digest).root, letter_of(size, index, record_of(index), nodes, digest)
 
 
 def flips_of(data):

@@ -4,10 +4,11 @@ from pathlib import Path
 from portable.digests import digest_cases
 from portable.finder import finder_cases
 from portable.form import file_text
+from portable.keyed import keyed_cases
 from portable.letters import checking_cases, writing_cases
 from portable.logs import log_cases
 from portable.orders import order_cases
-from portable.panel import panel_cases
+from portable.panel import keyed_panel_cases, panel_cases
 from portable.shape import shape_cases
 from portable.stored import stored_cases
 
@@ -16,6 +17,7 @@ VECTORS = Path(__file__).resolve().parents[2] / "vectors"
 FILES = {
     "orders.json": ("every two refusals of a call at once", "3", order_cases),
     "digests.json": ("digests, plain and keyed, beside BLAKE3's published ones in blake3-published.txt", "5", digest_cases),
+    "keyed.json": ("keys, modes, and what is worked out under a key", "5.5", keyed_cases),
     "shape.json": ("sizes, positions of leaves and leaf counts", "6", shape_cases),
     "logs.json": ("whole logs, appends and roots", "7", log_cases),
     "stored.json": ("stored nodes, written and read", "8", stored_cases),
@@ -23,6 +25,7 @@ FILES = {
     "letters-checked.json": ("letters checked: true, damaged, forged", "9", checking_cases),
     "finder.json": ("letters beside the log that they are of", "10", finder_cases),
     "panel.json": ("what the panel's program reads, and the number that it writes", "11", panel_cases),
+    "panel-keyed.json": ("what the panel's program for keyed logs reads, and the number that it writes", "11", keyed_panel_cases),
 }
 
 

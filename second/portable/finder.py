@@ -2,6 +2,7 @@
 from portable.form import case, counted, logged
 from portable.letters import flipped, restated
 from portable.logs import small_log
+from rules.blake3 import PLAIN
 from rules.finder import PAIR, find
 from rules.letters import letter_of
 from rules.log import LONGEST_RECORD, NODE
@@ -12,11 +13,11 @@ LOGS = ((1, 0), (4, 1), (7, 0), (7, 3), (7, 5), (7, 6))
 LEAVES, INDEX = 7, 3
 
 
-def find_case(name, size, nodes, record, letter, rooms=(PAIR, PAIR)):
+def find_case(name, size, nodes, record, letter, rooms=(PAIR, PAIR), mode=PLAIN):
     """A letter compared with a log. rooms: the lengths of the two buffers."""
-    answer = find(size, record, nodes, letter, bytearray(rooms[0]), bytearray(rooms[1]))
+    answer = find(size, record, nodes, letter, bytearray(rooms[0]), bytearray(rooms[1]), mode)
     given = {"size": size, "nodes": nodes, "record": record, "letter": letter, "first_room": rooms[0], "second_room": rooms[1]}
-    return case("find", name, given, answer.number, found=answer.outcome)
+    return case("find", name, given, answer.number, mode, found=answer.outcome)
 
 
 def finder_changes(nodes, record, letter):

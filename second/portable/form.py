@@ -1,5 +1,7 @@
-"""How the portable vectors are written: bytes, numbers, a case, a file."""
+"""How the portable vectors are written: bytes, numbers, modes, a case, a file."""
 import json
+
+from rules.blake3 import PLAIN
 
 # A run of counting bytes that is at least so long is described, and not spelled out.
 LONG = 48
@@ -53,8 +55,16 @@ def form(value):
     return str(value) if isinstance(value, int) else value
 
 
-def case(call, name, given, number, **values):
+def mode_fields(mode):
+    """A mode among what is given: nothing where it is the plain one, the key where it is that key's, else its number too."""
+    if mode == PLAIN:
+        return {}
+    return {"key": mode.key} if mode.keyed == 1 else {"keyed": mode.keyed, "key": mode.key}
+
+
+def case(call, name, given, number, mode=PLAIN, **values):
     """A case: the call, a name, what it is given, and the answer, which for a refusal is its number alone."""
+    given = {**mode_fields(mode), **given}
     answer = {name: form(value) for name, value in values.items()} if number == 0 else {}
     return {"name": name, "call": call, "given": {name: form(value) for name, value in given.items()}, "answer": {"number": number, **answer}}
 

@@ -2,7 +2,7 @@
 from expected.panel import longest_letter
 from portable.form import case, counted, logged
 from portable.logs import log_of, small_log
-from rules.blake3 import digest
+from rules.blake3 import PLAIN, digest
 from rules.letters import LETTER_HEAD, WHOLE_LETTER, check_letter, items_in, letter_bytes, letter_of, record_in, worked_root, write_letter
 from rules.log import LONGEST_RECORD, NODE, node, root
 from rules.shape import MOST_LEAVES, items_of, leaf_count, nodes_of
@@ -14,20 +14,20 @@ LARGER = ((11, 0), (11, 9), (15, 0), (15, 9), (15, 14), (16, 5))
 LEAVES, INDEX = 7, 2
 
 
-def write_case(name, size, index, record, nodes, room):
+def write_case(name, size, index, record, nodes, room, mode=PLAIN):
     """A letter written into so many bytes. With it the positions of its items; more than one position is a fold."""
     out = bytearray(room)
-    number, length = write_letter(size, index, record, nodes, out)
+    number, length = write_letter(size, index, record, nodes, out, mode)
     items = [[str(position) for position in item] for item in items_of(leaf_count(size)[1], index)] if number == 0 else []
     given = {"size": size, "index": index, "record": record, "nodes": nodes, "room": room}
-    return case("letter_write", name, given, number, letter=out[:length], items=items)
+    return case("letter_write", name, given, number, mode, letter=out[:length], items=items)
 
 
-def check_case(name, size, top, letter):
+def check_case(name, size, top, letter, mode=PLAIN):
     """A letter checked against a trusted size and root."""
-    answer = check_letter(size, top, letter)
+    answer = check_letter(size, top, letter, mode)
     values = {"index": answer.index, "record_at": answer.start, "record": letter[answer.start:answer.start + answer.length]}
-    return case("letter_check", name, {"size": size, "root": top, "letter": letter}, answer.number, **values)
+    return case("letter_check", name, {"size": size, "root": top, "letter": letter}, answer.number, mode, **values)
 
 
 def flipped(data, place, mask=1):

@@ -1,47 +1,48 @@
 """The vectors of logs: whole ones, and appends and roots at the edges of their orders."""
 from portable.form import case, counted, logged
+from rules.blake3 import PLAIN
 from rules.log import LONGEST_RECORD, NODE, append, root
 from rules.shape import MOST_LEAVES, nodes_of
 
 LEAVES = 16
 
 
-def log_of(records):
-    """A log of these records: its size and nodes."""
+def log_of(records, mode=PLAIN):
+    """A log of these records in a mode: its size and nodes."""
     nodes, size = bytearray(NODE * nodes_of(len(records))), 0
     for record in records:
-        size = append(size, record, nodes).size
+        size = append(size, record, nodes, mode).size
     return size, bytes(nodes)
 
 
-def small_log(leaves):
+def small_log(leaves, mode=PLAIN):
     """A log of the first so many records: its size and nodes."""
-    return log_of([logged(number) for number in range(leaves)])
+    return log_of([logged(number) for number in range(leaves)], mode)
 
 
-def whole_case(name, records):
+def whole_case(name, records, mode=PLAIN):
     """Records appended one by one to an empty log: after each the size, the hash count and the root; at the end the nodes."""
     nodes, sizes, counts, roots = bytearray(NODE * nodes_of(len(records))), [0], [], []
     for record in records:
-        answer = append(sizes[-1], record, nodes)
+        answer = append(sizes[-1], record, nodes, mode)
         sizes.append(answer.size)
         counts.append(answer.hashes)
-        roots.append(root(answer.size, nodes).root)
-    return case("log", name, {"records": list(records)}, 0, sizes=sizes[1:], hashes_each=counts, roots=roots, nodes=nodes)
+        roots.append(root(answer.size, nodes, mode).root)
+    return case("log", name, {"records": list(records)}, 0, mode, sizes=sizes[1:], hashes_each=counts, roots=roots, nodes=nodes)
 
 
-def append_case(name, size, record, nodes):
+def append_case(name, size, record, nodes, mode=PLAIN):
     """One append."""
     after = bytearray(nodes)
-    answer = append(size, record, after)
-    return case("append", name, {"size": size, "record": record, "nodes": nodes}, answer.number,
+    answer = append(size, record, after, mode)
+    return case("append", name, {"size": size, "record": record, "nodes": nodes}, answer.number, mode,
                 new_size=answer.size, hashes=answer.hashes, nodes=after)
 
 
-def root_case(name, size, nodes):
+def root_case(name, size, nodes, mode=PLAIN):
     """One root."""
-    number, top = root(size, nodes)
-    return case("root", name, {"size": size, "nodes": nodes}, number, root=top)
+    number, top = root(size, nodes, mode)
+    return case("root", name, {"size": size, "nodes": nodes}, number, mode, root=top)
 
 
 def whole_cases():

@@ -1,10 +1,12 @@
-"""The vectors of the orders (RULES 3): every two refusals of a call at once."""
+"""The vectors of the orders (RULES 3): every two refusals of a call at once, in any mode."""
 import itertools
 
+from expected.given import LEAGUES
 from portable.form import counted, logged
 from portable.finder import find_case
 from portable.letters import check_case, flipped, write_case
 from portable.logs import append_case, root_case, small_log
+from rules.blake3 import PLAIN
 from rules.finder import PAIR
 from rules.letters import LETTER_HEAD, letter_of
 from rules.log import LONGEST_RECORD, NODE, root
@@ -46,11 +48,11 @@ def with_letter(make, parts):
     return made
 
 
-def calls():
+def calls(mode):
     """Each call: what makes a case of it, inputs that are done, and for each entry of its order a change to which it applies."""
-    size, nodes = small_log(LEAVES)
+    size, nodes = small_log(LEAVES, mode)
     record, longer, short = logged(INDEX), counted(8, LONGEST_RECORD + 1), {"nodes": nodes[:-1]}
-    letter, no_size = letter_of(size, INDEX, record, nodes), {"size": 2}
+    letter, top, no_size = letter_of(size, INDEX, record, nodes, mode), root(size, nodes, mode).root, {"size": 2}
     parts, from_7 = letter_changes(letter, len(record))
     room = {"nodes": nodes + bytes(NODE * (nodes_of(LEAVES + 1) - size) - 1)}
     yield "append", append_case, {"size": size, "record": record, "nodes": room["nodes"] + b"\0"}, {
@@ -58,36 +60,36 @@ def calls():
     yield "root", root_case, {"size": size, "nodes": nodes}, {"1": no_size, "10": {"size": 0}, "4": short}
     yield "letter_write", write_case, {"size": size, "index": INDEX, "record": record, "nodes": nodes, "room": len(letter)}, {
         "1": no_size, "5": {"index": LEAVES}, "3": {"record": longer}, "4": short, "13": {"record": b"other"}, "6": {"room": len(letter) - 1}}
-    yield "letter_check", with_letter(check_case, parts), {"size": size, "top": root(size, nodes).root, **parts}, {
-        "1": no_size, "12": {"top": root(size, nodes).root[:-1]}, **from_7}
+    yield "letter_check", with_letter(check_case, parts), {"size": size, "top": top, **parts}, {
+        "1": no_size, "12": {"top": top[:-1]}, **from_7}
     yield "find", with_letter(find_case, parts), {"size": size, "nodes": nodes, "record": record, "rooms": (PAIR, PAIR), **parts}, {
         "1": no_size, "10": {"size": 0}, "4": short, **from_7, "3 (record)": {"record": longer}, "13": {"record": b"other"},
         "14": {"nodes": flipped(nodes, NODE)}, "6 (first buffer)": {"rooms": (PAIR - 1, PAIR)}, "6 (second buffer)": {"rooms": (PAIR, PAIR - 1)}}
 
 
-def pairs():
+def pairs(mode):
     """A case for every two entries of an order whose changes are of different parts: the entry that comes first, and the case."""
-    for call, make, true, changes in calls():
+    for call, make, true, changes in calls(mode):
         for one, other in itertools.combinations([entry for entry in ORDERS[call] if entry in changes], 2):
             if not set(changes[one]) & set(changes[other]):
-                yield one, make(f"{call}, {one} and {other}", **{**true, **changes[one], **changes[other]})
+                yield one, make(f"{call}, {one} and {other}", mode=mode, **{**true, **changes[one], **changes[other]})
 
 
-def singles():
+def singles(mode):
     """Each entry of an order alone, and the case."""
-    for call, make, true, changes in calls():
+    for call, make, true, changes in calls(mode):
         for entry, change in changes.items():
-            yield entry, make(f"{call}, {entry}", **{**true, **change})
+            yield entry, make(f"{call}, {entry}", mode=mode, **{**true, **change})
 
 
-def order_cases():
+def order_cases(mode=PLAIN):
     """Every two refusals at once."""
-    return [case for _, case in pairs()]
+    return [case for _, case in pairs(mode)]
 
 
 def check_orders():
-    """Each entry applies alone, and of two the one that comes first is answered."""
-    tried = [*singles(), *pairs()]
+    """In each mode each entry applies alone, and of two the one that comes first is answered."""
+    tried = [one for mode in (PLAIN, *LEAGUES[:1]) for one in (*singles(mode), *pairs(mode))]
     wrong = [case for entry, case in tried if case["answer"]["number"] != int(entry.split()[0])]
     for case in wrong:
         print(f"orders: {case['name']}: answered {case['answer']['number']}")

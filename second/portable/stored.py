@@ -1,27 +1,24 @@
 """The vectors of stored nodes, written and read, true and damaged."""
 from portable.form import case, counted
-from rules.blake3 import digest
+from rules.blake3 import PLAIN, digest
 from rules.log import LONGEST_RECORD
 from rules.stored import read_stored, stored_inner, stored_leaf, write_stored_inner, write_stored_leaf
 
 RECORD = b"44:58 no goal"
 
 
-def written_case(call, write, name, given, room):
-    """A node written into so many bytes. given: the name of what is given, and its bytes."""
-    out = bytearray(room)
-    number, length = write(given[1], out)
-    return case(call, name, {given[0]: given[1], "room": room}, number, node=out[:length])
-
-
-def leaf_case(name, record, spare=0):
-    """A leaf, with so many bytes of room more than it wants."""
-    return written_case("store_leaf", write_stored_leaf, name, ("record", record), 37 + len(record) + spare)
+def leaf_case(name, record, spare=0, mode=PLAIN):
+    """A leaf written into so many bytes more than it wants."""
+    out = bytearray(37 + len(record) + spare)
+    number, length = write_stored_leaf(record, out, mode)
+    return case("store_leaf", name, {"record": record, "room": len(out)}, number, mode, node=out[:length])
 
 
 def inner_case(name, given, room):
-    """An inner node."""
-    return written_case("store_inner", write_stored_inner, name, ("digest", given), room)
+    """An inner node written into so many bytes."""
+    out = bytearray(room)
+    number, length = write_stored_inner(given, out)
+    return case("store_inner", name, {"digest": given, "room": room}, number, node=out[:length])
 
 
 def read_case(name, node):

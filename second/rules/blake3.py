@@ -1,4 +1,4 @@
-"""BLAKE3 (RULES 5): the compression, chunks, parents, the tree; plain and keyed."""
+"""BLAKE3 (RULES 5): the compression, chunks, parents, the tree; the modes, plain and keyed."""
 import struct
 from collections import namedtuple
 
@@ -10,7 +10,7 @@ PERMUTATION = (2, 6, 3, 10, 7, 0, 4, 13, 1, 11, 12, 5, 9, 14, 15, 8)
 COLUMNS = ((0, 4, 8, 12), (1, 5, 9, 13), (2, 6, 10, 14), (3, 7, 11, 15))
 DIAGONALS = ((0, 5, 10, 15), (1, 6, 11, 12), (2, 7, 8, 13), (3, 4, 9, 14))
 CHUNK_START, CHUNK_END, PARENT, ROOT, KEYED = 1, 2, 4, 8, 16
-CHUNK, BLOCK = 1024, 64
+CHUNK, BLOCK, KEY = 1024, 64, 32
 LOW_WORD = 0xFFFFFFFF
 
 
@@ -24,19 +24,23 @@ def bytes_of(words):
     return struct.pack(f"<{len(words)}I", *words)
 
 
-def turned_right(word, count):
-    """The word turned right by count bits."""
-    return (word >> count | word << (32 - count)) & LOW_WORD
-
-
 def mix(state, places, x, y):
-    """Mix the four words of the state at the places a, b, c, d with the message words x and y."""
-    a, b, c, d = places
-    for word, turn_d, turn_b in ((x, 16, 12), (y, 8, 7)):
-        state[a] = (state[a] + state[b] + word) & LOW_WORD
-        state[d] = turned_right(state[d] ^ state[a], turn_d)
-        state[c] = (state[c] + state[d]) & LOW_WORD
-        state[b] = turned_right(state[b] ^ state[c], turn_b)
+    """Mix the four words of the state at the places a, b, c, d with the message words x and y. w >> n | w << 32 - n is w turned right by n."""
+    at_a, at_b, at_c, at_d = places
+    a, b, c, d = state[at_a], state[at_b], state[at_c], state[at_d]
+    a = (a + b + x) & LOW_WORD
+    d ^= a
+    d = (d >> 16 | d << 16) & LOW_WORD
+    c = (c + d) & LOW_WORD
+    b ^= c
+    b = (b >> 12 | b << 20) & LOW_WORD
+    a = (a + b + y) & LOW_WORD
+    d ^= a
+    d = (d >> 8 | d << 24) & LOW_WORD
+    c = (c + d) & LOW_WORD
+    b ^= c
+    b = (b >> 7 | b << 25) & LOW_WORD
+    state[at_a], state[at_b], state[at_c], state[at_d] = a, b, c, d
 
 
 def one_round(state, message):
@@ -61,14 +65,31 @@ def compress(chaining, block, counter, length, flags):
     return [state[i] ^ state[i + 8] for i in range(8)]
 
 
-# A mode: the words that chaining begins with, and a flag that every compression has.
-Mode = namedtuple("Mode", "starting flag")
-PLAIN = Mode(STARTING_WORDS, 0)
+class Mode(namedtuple("Mode", "keyed key")):
+    """A mode (RULES 5.5): plain where keyed is 0, and the key then means nothing; else keyed. Called with bytes it gives their digest."""
+
+    @property
+    def starting(self):
+        """The words that chaining begins with."""
+        return STARTING_WORDS if self.keyed == 0 else words_of(self.key)
+
+    @property
+    def flag(self):
+        """A flag that every compression has."""
+        return 0 if self.keyed == 0 else KEYED
+
+    def __call__(self, data):
+        """The 32 bytes of the hash in this mode."""
+        return bytes_of(tree_words(self, 0, data, ROOT))
+
+
+PLAIN = Mode(0, bytes(KEY))
+Keyed = namedtuple("Keyed", "number mode")
 
 
 def keyed(key):
-    """The mode of the keyed hash, for a key of 32 bytes."""
-    return Mode(words_of(key), KEYED)
+    """The number and the keyed mode of a key: 24 where it is not 32 bytes, and then there is no mode."""
+    return Keyed(24, None) if len(key) != KEY else Keyed(0, Mode(1, bytes(key)))
 
 
 def blocks_of(chunk):
@@ -116,9 +137,9 @@ def tree_words(mode, first, data, root):
 
 def digest(data, mode=PLAIN):
     """The 32 bytes of the hash: plain, or in another mode."""
-    return bytes_of(tree_words(mode, 0, data, ROOT))
+    return mode(data)
 
 
-def digest_of_pair(left, right):
+def digest_of_pair(left, right, mode=PLAIN):
     """The digest of two digests, left then right."""
-    return digest(left + right)
+    return mode(left + right)

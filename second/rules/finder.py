@@ -1,7 +1,7 @@
 """The finder (RULES 10): an accepted letter beside the log."""
 from collections import namedtuple
 
-from rules.blake3 import digest
+from rules.blake3 import PLAIN
 from rules.letters import checking_from_7, first_of, index_in, letter_inputs, record_in
 from rules.log import LONGEST_RECORD, NODE, folded, node, root
 from rules.shape import leaf_count, nodes_of, path_of, peaks_around
@@ -47,7 +47,7 @@ def compared(of_log, of_letter, record, other, ours, theirs):
     return "same" if record == other else "records"
 
 
-def find(size, record, buffer, letter, ours, theirs, digest=digest):
+def find(size, record, buffer, letter, ours, theirs, digest=PLAIN):
     """An accepted letter beside the log."""
     number = first_of(finding(size, record, buffer, letter, ours, theirs, digest))
     if number != 0:

@@ -1,7 +1,7 @@
-"""Letters, written and checked (RULES 9); the panel's program (RULES 11)."""
+"""Letters, written and checked (RULES 9); the panels' programs (RULES 11)."""
 from collections import namedtuple
 
-from rules.blake3 import digest
+from rules.blake3 import KEY, PLAIN, keyed
 from rules.log import LONGEST_RECORD, NODE, folded, node
 from rules.shape import items_of, leaf_count, nodes_of, path_of, peaks_around
 
@@ -73,7 +73,7 @@ def writing(size, index, record, buffer, out, digest):
         yield 6
 
 
-def write_letter(size, index, record, buffer, out, digest=digest):
+def write_letter(size, index, record, buffer, out, digest=PLAIN):
     """The letter of an index, into the first bytes of out: the number and the length."""
     number = first_of(writing(size, index, record, buffer, out, digest))
     if number != 0:
@@ -85,7 +85,7 @@ def write_letter(size, index, record, buffer, out, digest=digest):
     return Written(0, len(letter))
 
 
-def letter_of(size, index, record, buffer, digest=digest):
+def letter_of(size, index, record, buffer, digest=PLAIN):
     """The letter of an index."""
     out = bytearray(LETTER_HEAD + len(record) + NODE * MOST_ITEMS)
     return bytes(out[:write_letter(size, index, record, buffer, out, digest).length])
@@ -143,15 +143,21 @@ def checking(size, top, letter, digest):
     yield from checking_from_7(size, leaves, top, letter, digest)
 
 
-def check_letter(size, top, letter, digest=digest):
+def check_letter(size, top, letter, digest=PLAIN):
     """A letter checked against a trusted size and root."""
     number = first_of(checking(size, top, letter, digest))
     return Checked(number, 0, 0, 0) if number != 0 else Checked(0, index_in(letter), LETTER_HEAD, stated_in(letter))
 
 
-def panel(data):
+def panel(data, digest=PLAIN):
     """The panel's verdict on what stands on its standard input: trusted size (8), root (32), one letter."""
     given = data[:PANEL_MOST]
     if len(given) < PANEL_HEAD:
         return 12
-    return check_letter(int.from_bytes(given[:8], "big"), given[8:PANEL_HEAD], given[PANEL_HEAD:]).number
+    return check_letter(int.from_bytes(given[:8], "big"), given[8:PANEL_HEAD], given[PANEL_HEAD:], digest).number
+
+
+def keyed_panel(data):
+    """The verdict under a key, which stands before the rest (32): 24 where it is cut, else what the panel answers for the rest in its mode."""
+    number, mode = keyed(data[:KEY])
+    return number if number != 0 else panel(data[KEY:], mode)

@@ -1,7 +1,7 @@
-"""Append and root (RULES 7). The digest function is a parameter, so that the rules can be tried with one that has collisions."""
+"""Append and root (RULES 7). The digest is that of a mode, or any other function, so that the rules can be tried with one that has collisions."""
 from collections import namedtuple
 
-from rules.blake3 import digest, digest_of_pair, left_chunks
+from rules.blake3 import PLAIN, left_chunks
 from rules.shape import MOST_LEAVES, leaf_count, nodes_of, peaks_of
 
 LONGEST_RECORD = 16384
@@ -15,7 +15,7 @@ def node(buffer, position):
     return bytes(buffer[NODE * position:NODE * (position + 1)])
 
 
-def folded(digests, digest=digest):
+def folded(digests, digest=PLAIN):
     """Digests folded: the rightmost, then leftward the digest of the left one and what is folded so far."""
     so_far = digests[-1]
     for left in reversed(digests[:-1]):
@@ -23,7 +23,7 @@ def folded(digests, digest=digest):
     return so_far
 
 
-def append(size, record, buffer, digest=digest):
+def append(size, record, buffer, digest=PLAIN):
     """One more record: a new peak of height 0, and while the last two peaks are of one height, their parent in their place."""
     number, leaves = leaf_count(size)
     if number == 0:
@@ -42,7 +42,7 @@ def append(size, record, buffer, digest=digest):
     return Appended(0, size + len(new), len(new))
 
 
-def root(size, buffer, digest=digest):
+def root(size, buffer, digest=PLAIN):
     """The root: the peaks, folded."""
     number, leaves = leaf_count(size)
     if number == 0:
@@ -53,9 +53,9 @@ def root(size, buffer, digest=digest):
     return Rooted(0, folded([node(buffer, peak.position) for peak in peaks_of(leaves)], digest))
 
 
-def plain_root(digests):
-    """The root by the plain rule (RULES 7.5): more digests than one are split after the largest power of two below their number."""
+def split_root(digests, digest=PLAIN):
+    """The root without positions (RULES 7.5): more digests than one are split after the largest power of two below their number."""
     if len(digests) == 1:
         return digests[0]
     left = left_chunks(len(digests))
-    return digest_of_pair(plain_root(digests[:left]), plain_root(digests[left:]))
+    return digest(split_root(digests[:left], digest) + split_root(digests[left:], digest))

@@ -1,4 +1,5 @@
 """Sizes, positions and counts (RULES 6); the peaks of a log, the path to a leaf, the items of a letter (RULES 9.2)."""
+import functools
 from collections import namedtuple
 
 MOST_LEAVES = 2**32
@@ -32,6 +33,7 @@ def leaf_position(index):
     return (5, 0) if index >= MOST_LEAVES else (0, nodes_of(index))
 
 
+@functools.lru_cache(maxsize=None)
 def leaf_count(size):
     """The number and the leaf count whose size this is. Sizes rise with the count, so that halving the range finds it."""
     low, high = 0, MOST_LEAVES

@@ -1,7 +1,7 @@
 """Stored nodes, written and read (RULES 8)."""
 from collections import namedtuple
 
-from rules.blake3 import digest
+from rules.blake3 import PLAIN
 from rules.log import LONGEST_RECORD
 
 # What a reader returns: the number, the kind, the digest, the record.
@@ -13,7 +13,7 @@ def stored_inner(given):
     return b"\x00" + given
 
 
-def stored_leaf(record):
+def stored_leaf(record, digest=PLAIN):
     """A leaf: byte 01, digest, record length (4 bytes, big-endian), record."""
     return b"\x01" + digest(record) + len(record).to_bytes(4, "big") + record
 
@@ -26,9 +26,9 @@ def write_stored(node, buffer):
     return 0, len(node)
 
 
-def write_stored_leaf(record, buffer):
+def write_stored_leaf(record, buffer, digest=PLAIN):
     """Write the leaf of a record: 3, 6."""
-    return (3, 0) if len(record) > LONGEST_RECORD else write_stored(stored_leaf(record), buffer)
+    return (3, 0) if len(record) > LONGEST_RECORD else write_stored(stored_leaf(record, digest), buffer)
 
 
 def write_stored_inner(given, buffer):
