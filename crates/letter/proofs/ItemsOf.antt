@@ -18,7 +18,7 @@ use Rattle.wire.proofs.Each.{each-append}
 use Rattle.shape.proofs.Heights.{height-holds}
 use Rattle.shape.proofs.Peaks.{peaks-some}
 use Rattle.shape.proofs.Positions.{positions-one, positions-low, positions-left, positions-right, positions-past}
-use Rattle.shape.proofs.Reading.{items-read, positions-length}
+use Rattle.shape.proofs.Reading.{fold-length, items-read, positions-length}
 use Rattle.shape.proofs.Inside.{items-local}
 use Rattle.wire.proofs.Joined.{joined-length}
 use Rattle.letter.specs.Items.{itemCount, itemsOf}
@@ -57,18 +57,12 @@ module _ (digest : List ℕ → List ℕ) (node : ℕ → List ℕ) where
   items-of-log ds i p q f = items-of (length ds) i p q ∙ items-read digest node ds i p f
 
   module _ (digest-32 : (x : List ℕ) → length (digest x) ≡ 32) (node-32 : (p : ℕ) → length (node p) ≡ 32) where
-    -- a fold of nodes has 32 bytes
-    pub fold-length : (ps : List ℕ) → 0 < length ps → length (fold digest node ps) ≡ 32
-    fold-length [] p = absurd (omega arith)
-    fold-length (x ∷ []) p = node-32 x
-    fold-length (x ∷ y ∷ ps) p = digest-32 (node x ++ fold digest node (y ∷ ps))
-
     -- one more behind those that have 32 bytes
     behind-each : (ps : List (List ℕ)) (p : List ℕ) → 0 < length p → Each 32 (map (fold digest node) ps)
         → Each 32 (map (fold digest node) (ps ++ (p ∷ [])))
     behind-each ps p q a =
         rw (map-append (fold digest node) ps (p ∷ []))
-        (each-append 32 (map (fold digest node) ps) (fold digest node p ∷ []) a (fold-length p q, tt))
+        (each-append 32 (map (fold digest node) ps) (fold digest node p ∷ []) a (fold-length digest node digest-32 node-32 p q, tt))
 
     pub from-each : (h n i s : ℕ) → i < n → n ≤ 2 ^ h → Each 32 (itemsFrom h n i s)
     from-each zero n i s p q = rw (positions-one n i s q p) tt

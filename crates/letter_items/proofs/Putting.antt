@@ -11,12 +11,13 @@ use Rattle.wire.proofs.Splices.{splice-none, splice-length, splice-splice, writ
 use Rattle.shape.specs.Positions.{top, behind, peaksIn, alone, positionsIn, fold}
 use Rattle.shape.proofs.Powers.{Halved, halved}
 use Rattle.shape.proofs.Peaks.{peaks-some}
+use Rattle.shape.proofs.Reading.{fold-length}
 use Rattle.shape.proofs.Positions.{positions-one, positions-low, positions-left, positions-right, positions-past}
 use Rattle.nodes.specs.Nodes.{nodeIn, foldFrom}
 use Rattle.wire.proofs.Joined.{joined-length, joined-append, joined-one}
 use Rattle.nodes.proofs.From.{from-any}
 use Rattle.nodes.proofs.Joined.{node-length}
-use Rattle.letter.proofs.ItemsOf.{itemsFrom, fold-length, from-each}
+use Rattle.letter.proofs.ItemsOf.{itemsFrom, from-each}
 
 -- the position behind the left side
 abbrev pub middle : ℕ → ℕ → ℕ

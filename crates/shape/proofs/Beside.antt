@@ -25,6 +25,7 @@ use Rattle.shape.proofs.Letters.{fill-32}
 use Rattle.shape.proofs.Bind.{fronts, backs, root-32, inputs-64}
 use Rattle.shape.proofs.Ways.{way-low, way-left, way-right, way-past}
 use Rattle.shape.proofs.Peaks.{peaks-low, peaks-full, peaks-some}
+use Rattle.shape.proofs.Reading.{fold-length}
 use Rattle.shape.proofs.Seen.{seen-low, seen-left, seen-right, topDiffers, broken-one, broken-low, broken-left, broken-right}
 
 -- where neither of two is 1
@@ -35,14 +36,9 @@ either-zero (suc x) y e = absurd (omega arith)
 -- each string that any nodes show has 64 bytes
 module _ (digest : List ℕ → List ℕ) (digest-32 : (x : List ℕ) → length (digest x) ≡ 32)
     (node : ℕ → List ℕ) (node-32 : (p : ℕ) → length (node p) ≡ 32) where
-  fold-32 : (ps : List ℕ) → 0 < length ps → length (fold digest node ps) ≡ 32
-  fold-32 [] p = absurd (omega arith)
-  fold-32 (x ∷ []) p = node-32 x
-  fold-32 (x ∷ y ∷ ps) p = digest-32 (node x ++ fold digest node (y ∷ ps))
-
   sides-64 : (h n s : ℕ) → 2 ^ h < n → n ≤ 2 ^ suc h → length (sides digest node h n s) ≡ 64
   sides-64 h n s p q =
-      let r = fold-32 (peaksIn (suc h) (n - 2 ^ h) (behind h s)) (peaks-some (suc h) (n - 2 ^ h) (behind h s) (omega arith) (omega arith)) in
+      let r = fold-length digest node digest-32 node-32 (peaksIn (suc h) (n - 2 ^ h) (behind h s)) (peaks-some (suc h) (n - 2 ^ h) (behind h s) (omega arith) (omega arith)) in
       length-append (node (top h s)) _ ∙ omega (arith, node-32 (top h s), r)
 
   seen-each : (h n i s : ℕ) → 0 < n → n ≤ 2 ^ h → Each 64 (seenIn digest node h n i s)

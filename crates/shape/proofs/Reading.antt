@@ -28,6 +28,13 @@ module _ (digest : List ℕ → List ℕ) (node : ℕ → List ℕ) where
   fold-cons p [] q = absurd (omega arith)
   fold-cons p (x ∷ ps) q = refl
 
+  -- a fold of nodes has 32 bytes, as nodes and digests have
+  pub fold-length : ((x : List ℕ) → length (digest x) ≡ 32) → ((p : ℕ) → length (node p) ≡ 32) → (ps : List ℕ) → 0 < length ps
+      → length (fold digest node ps) ≡ 32
+  fold-length digest-32 node-32 [] p = absurd (omega arith)
+  fold-length digest-32 node-32 (x ∷ []) p = node-32 x
+  fold-length digest-32 node-32 (x ∷ y ∷ ps) p = digest-32 (node x ++ fold digest node (y ∷ ps))
+
   -- the top of a perfect tree is its root
   pub top-read : (h s : ℕ) (ds : List (List ℕ)) → length ds ≡ 2 ^ h → Holds node s (perfect digest h ds)
       → node (top h s) ≡ root digest (treeIn h ds)
