@@ -1,5 +1,6 @@
 #!/bin/sh
-# bench/gate.sh [FILE]: the seconds that each crate and each must-fail edit took, as a table, from what .ci/run or rt ci printed.
+# bench/gate.sh [FILE]: the seconds that each crate and each must-fail edit took, as a table, from what .ci/run or rt ci printed. They are seconds of the
+# clock: what each costs alone shows where no more checks go on at once than there are processors, as with RT_JOBS=2 .ci/run on two.
 # Exit status: 0, or 1 where there is no such line.
 set -eu
 awk '
@@ -22,5 +23,5 @@ END {
     print "| crate | proved, s | edits | s | each, s |"
     print "|---|---|---|---|---|"
     for (i = 1; i <= n; i++) printf "| `%s` | %d | %d | %d | %s |\n", crates[i], proved[crates[i]], edits[crates[i]], sum[crates[i]], each[crates[i]]
-    printf "\n%d crates, %d edits, %d seconds of one core\n", n, count, total
+    printf "\n%d crates, %d edits, %d seconds of the clock added up\n", n, count, total
 }' "$@"
