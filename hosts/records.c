@@ -1,9 +1,9 @@
 /* The records beside a log, where they were asked for: the bytes in LOG.records, and in LOG.index where each ends.
 
    Each file begins with a page: a name (16 bytes), the index of the first record that is kept there (8, big-endian) and the plain digest of those 24
-   bytes, whatever the log's mode. Behind it LOG.records has the records' bytes one after the other, and LOG.index for each record 8 bytes, big-endian: where it ends in the
-   other. How many there are, the log's own size says: both files are on disk before a size is that speaks of them, and what is behind it means
-   nothing. So a crash leaves the records that the log has. That a record is the one that was logged, its leaf shows. */
+   bytes, whatever the log's mode. Behind it LOG.records has the records' bytes one after the other, and LOG.index for each record 8 bytes,
+   big-endian: where it ends in the other. How many there are, the log's own size says: both files are on disk before a size is that speaks of them,
+   and what is behind it means nothing. So a crash leaves the records that the log has. That a record is the one that was logged, its leaf shows. */
 #include <errno.h>
 #include <fcntl.h>
 #include <stdio.h>
