@@ -31,7 +31,6 @@ module _ (size n : ℕ) (letter : List ℕ) {r : Fields} (e : takenApart r ≡ f
     pub long : r .length ≡ statedIn letter
     pub inside : r .index < n
     pub short : statedIn letter ≤ 16384
-    pub few : itemsFor n letter ≤ 32
     pub exact : length letter ≡ r .start + r .length + 32 * itemsFor n letter
 
   pub apart : r .number ≡ 0 → Apart
@@ -48,9 +47,8 @@ module _ (size n : ℕ) (letter : List ℕ) {r : Fields} (e : takenApart r ≡ f
         start = s;
         long = l;
         inside = omega (arith, i, p .1 .1 .0);
-        few = omega (arith, p .1 .1 .1 .0);
-        short = omega (arith, p .1 .1 .1 .1 .0);
-        exact = omega (arith, s, l, p .1 .1 .1 .1 .1 .0);
+        short = omega (arith, p .1 .1 .1 .0);
+        exact = omega (arith, s, l, p .1 .1 .1 .1 .0);
       }
 
   -- the record and the items, as slices of the letter

@@ -17,7 +17,6 @@ module _ (digest : List ℕ → List ℕ) (size n : ℕ) (root letter : List ℕ
     pub long : 20 ≤ length letter
     pub named : sizeIn letter ≡ size
     pub inside : indexIn letter < n
-    pub few : itemsFor n letter ≤ 32
     pub short : statedIn letter ≤ 16384
     pub exact : length letter ≡ exactLength n letter
     pub rooted : root ≡ workedRoot digest n letter
@@ -29,16 +28,15 @@ module _ (digest : List ℕ → List ℕ) (size n : ℕ) (root letter : List ℕ
         long = p .0;
         named = p .1 .0;
         inside = p .1 .1 .0;
-        few = p .1 .1 .1 .0;
-        short = p .1 .1 .1 .1 .0;
-        exact = p .1 .1 .1 .1 .1 .0;
-        rooted = same-of-differ root (workedRoot digest n letter) (p .1 .1 .1 .1 .1 .1 .0);
+        short = p .1 .1 .1 .0;
+        exact = p .1 .1 .1 .1 .0;
+        rooted = same-of-differ root (workedRoot digest n letter) (p .1 .1 .1 .1 .1 .0);
       }
 
   pub fits-pass : Fits → Passes (from7 digest size n root letter)
   unfolding from7 fieldsOrder behindOrder
   fits-pass f =
-      (f .long, (f .named, (f .inside, (f .few, (f .short, (f .exact, (differ-same root (workedRoot digest n letter) (f .rooted), tt)))))))
+      (f .long, (f .named, (f .inside, (f .short, (f .exact, (differ-same root (workedRoot digest n letter) (f .rooted), tt))))))
 
   -- it is the letter that its fields give, for that size
   pub fits-spelt : Bytes letter → Fits → letter ≡ letterBytes size (indexIn letter) (recordIn letter) (itemsIn (itemsFor n letter) letter)

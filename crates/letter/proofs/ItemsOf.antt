@@ -1,5 +1,5 @@
--- The items of an index, over any digest function and any nodes: how many they are, that each has 32 bytes, and that from a log's nodes they are the
--- log's.
+-- The items of an index, over any digest function and any nodes: how many they are, and never more than 32; that each has 32 bytes, and that from a
+-- log's nodes they are the log's.
 use mathlib.Core.Path.{_≡_, sym, ap, _∙_}
 use mathlib.Core.Logic.{by-cases}
 use mathlib.Core.List.{List, [], _∷_, _++_, map, map-append}
@@ -8,25 +8,35 @@ use native.Mathlib.Decide.{decLe, decLt}
 use native.Mathlib.Omega.{arith}
 use borrow.Author.Tests.{lt-ltb, le-ltb, le-leb, lt-leb}
 use lib.ListN.{length, length-map}
-use Rattle.shape.specs.Sizes.{sizeOf, heightOf}
+use Rattle.shape.specs.Sizes.{sizeOf, heightOf, leaves}
 use Rattle.wire.specs.Slices.{Each, joined}
 use Rattle.shape.specs.Folded.{tree}
 use Rattle.shape.specs.Nodes.{Holds, nodes}
 use Rattle.shape.specs.Positions.{top, behind, peaksIn, alone, positionsIn, itemPositions, fold}
 use Rattle.shape.specs.Letter.{way, items}
 use Rattle.wire.proofs.Each.{each-append}
+use Rattle.shape.proofs.Counting.{counts-known}
 use Rattle.shape.proofs.Heights.{height-holds}
+use Rattle.shape.proofs.Ways.{way-at-most}
 use Rattle.shape.proofs.Peaks.{peaks-some}
 use Rattle.shape.proofs.Positions.{positions-one, positions-low, positions-left, positions-right, positions-past}
 use Rattle.shape.proofs.Reading.{fold-length, items-read, positions-length}
 use Rattle.shape.proofs.Inside.{items-local}
 use Rattle.wire.proofs.Joined.{joined-length}
-use Rattle.letter.specs.Items.{itemCount, itemsOf}
+use Rattle.letter.specs.Items.{itemCount, mostItems, ItemsAtMost, itemsOf}
 
 -- as many as RULES 9.2 lists
 pub items-counted : (n i : ℕ) → i < n → length (itemPositions n i) ≡ itemCount n i
 unfolding itemCount
 items-counted n i p = positions-length n i p
+
+-- for a leaf count within the limits at most 32, whatever the index
+pub count-at-most : (n i : ℕ) → n ≤ 2 ^ 32 → itemCount n i ≤ mostItems
+unfolding itemCount
+count-at-most n i q = way-at-most 32 n i q
+
+pub items-at-most : ItemsAtMost
+items-at-most size i known p = rw (items-counted (leaves size) i p) (count-at-most (leaves size) i (counts-known size known .most))
 
 module _ (digest : List ℕ → List ℕ) (node : ℕ → List ℕ) where
   -- the items of leaf i of n leaves, n at most 2^h, whose nodes begin at position s

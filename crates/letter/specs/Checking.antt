@@ -17,11 +17,10 @@ itemsFor n letter = itemCount n (indexIn letter)
 abbrev pub exactLength : ℕ → List ℕ → ℕ
 exactLength n letter = head + statedIn letter + 32 * itemsFor n letter
 
--- behind the size: index not below the leaf count; more than 32 items needed; stated record length above 16,384; not of its exact length
+-- behind the size: index not below the leaf count; stated record length above 16,384; not of its exact length
 unfoldable pub behindOrder : ℕ → List ℕ → List Refusal
 behindOrder n letter =
     5 if indexIn letter not-below n
-    ∷ 15 if itemsFor n letter above 32
     ∷ 3 if statedIn letter above longestRecord
     ∷ 7 if length letter is-not exactLength n letter
     ∷ []

@@ -1,13 +1,15 @@
--- The items of a letter, over any digest function: how many there are, what a log's nodes, any function from position to digest, give for them and
--- for the leaf, the root worked out from them.
+-- The items of a letter, over any digest function: how many there are and can be, what a log's nodes, any function from position to digest, give for
+-- them and for the leaf, the root worked out from them.
+use mathlib.Core.Logic.{_≢_}
+use mathlib.Core.Path.{_≡_}
 use mathlib.Core.Bool.{true, false, _&&_}
 use mathlib.Core.List.{List, [], map}
-use Prim.Native.Nat.{ℕ}
+use Prim.Native.Nat.{ℕ, _≤_, _<_}
 use lib.Dec.{ltb, leb}
 use lib.ListN.{length}
 use Rattle.wire.specs.Limits.{mostLeaves}
 use Rattle.wire.specs.Slices.{differ}
-use Rattle.shape.specs.Sizes.{positionAnswer}
+use Rattle.shape.specs.Sizes.{countAnswer, leaves, positionAnswer}
 use Rattle.shape.specs.Positions.{itemPositions, fold}
 use Rattle.shape.specs.Tree.{Tree, root}
 use Rattle.shape.specs.Letter.{way, fill}
@@ -16,6 +18,14 @@ use Rattle.letter.specs.Bytes.{indexIn, recordIn, itemsIn}
 -- the number of items for index i of n leaves: one for each turn on the way to it, as many as RULES 9.2 lists (`items-counted`)
 unfoldable pub itemCount : ℕ → ℕ → ℕ
 itemCount n i = length (way n i)
+
+-- no size and index within the limits needs more than 32 items: for every size that has a leaf count up to 2^32, and every index below that count,
+-- those that RULES 9.2 lists are at most 32 (`items-at-most`)
+abbrev pub mostItems : ℕ
+mostItems = 32
+
+abbrev pub ItemsAtMost : Type 0
+ItemsAtMost = (size i : ℕ) → countAnswer size .number ≢ 1 → i < leaves size → length (itemPositions (leaves size) i) ≤ mostItems
 
 -- the leaf at index i's place
 abbrev pub leafIn : (ℕ → List ℕ) → ℕ → List ℕ

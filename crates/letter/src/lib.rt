@@ -28,7 +28,7 @@ fn fields_refused(number: u32) -> Fields
     }
 }
 
-// The fields behind the size, for a log of n leaves. Refuses by 5, 15, 3, 7 (exact).
+// The fields behind the size, for a log of n leaves. Refuses by 5, 3, 7 (exact).
 pub fn behind_size(n: u64, letter: &[u8]) -> Fields
     ensures { λ r. ⌜ takenApart r ≡ behindOutcome n (now (letter .entry)) ⌝ }
 {
@@ -36,14 +36,11 @@ pub fn behind_size(n: u64, letter: &[u8]) -> Fields
     if n <= index {
         return fields_refused(5);
     }
-    let items = count::item_count(n, index) as usize;
-    if 32 < items {
-        return fields_refused(15);
-    }
     let stated = wire::read4(letter, 16) as usize;
     if wire::LONGEST_RECORD < stated {
         return fields_refused(3);
     }
+    let items = count::item_count(n, index) as usize;
     if letter.len() != HEAD + stated + 32 * items {
         return fields_refused(7);
     }

@@ -2,7 +2,7 @@
 use mathlib.Core.Path.{_≡_, refl, sym, ap, ap₂, _∙_}
 use mathlib.Core.Logic.{by-cases}
 use mathlib.Core.List.{List, _∷_, _++_}
-use Prim.Native.Nat.{ℕ, _+_, _*_, _≤_, _<_}
+use Prim.Native.Nat.{ℕ, _+_, _*_, _^_, _≤_, _<_}
 use native.Mathlib.Decide.{decLt}
 use native.Mathlib.Omega.{arith}
 use borrow.Author.Tests.{lt-ltb, le-ltb}
@@ -16,8 +16,10 @@ use Rattle.wire.specs.Numbers.{number}
 use Rattle.wire.specs.Slices.{part}
 use Rattle.wire.proofs.Parts.{part-take}
 use Rattle.shape.specs.Sizes.{leaves}
+use Rattle.shape.proofs.Counting.{counts-known}
 use Rattle.letter.specs.Bytes.{sizeIn, indexIn, statedIn}
 use Rattle.letter.specs.Checking.{behindOrder, fieldsOrder, from7}
+use Rattle.letter.proofs.ItemsOf.{count-at-most}
 use Rattle.letter_checker.specs.Outcome.{CheckOutcome, checkRefused, checkDone, checkOrder, checkOutcome, judged, judgedKeyed}
 
 -- the front of a letter has its fields
@@ -35,7 +37,7 @@ module _ (k : ℕ) (l : List ℕ) (p : 20 ≤ k) (q : k ≤ length l) where
   stated-front = ap number (part-take 16 4 k l (omega arith) q)
 
 -- two letters with the same fields, both longer than the longest
-module _ (size n : ℕ) (l m : List ℕ) (es : sizeIn l ≡ sizeIn m) (ei : indexIn l ≡ indexIn m) (et : statedIn l ≡ statedIn m)
+module _ (size n : ℕ) (most : n ≤ 2 ^ 32) (l m : List ℕ) (es : sizeIn l ≡ sizeIn m) (ei : indexIn l ≡ indexIn m) (et : statedIn l ≡ statedIn m)
     (p : 17429 ≤ length l) (q : 17429 ≤ length m) where
   too-long : (x : List ℕ) (k s : ℕ) (later : List Refusal) → 17429 ≤ length x → k ≤ 32 → s ≤ 16384
       → 7 ≡ firstNumber (7 if length x is-not (20 + s + 32 * k) ∷ later)
@@ -46,8 +48,9 @@ module _ (size n : ℕ) (l m : List ℕ) (es : sizeIn l ≡ sizeIn m) (ei : inde
   same-fields xs ys =
       first-next 7 _ _ (omega arith)
       ∙ rw (es, ei, et)
-      (first-both 8 _ _ _ λ a. first-both 5 _ _ _ λ b. first-both 15 _ _ _ λ c. first-both 3 _ _ _ λ d.
-      sym (too-long l _ _ _ p c d) ∙ too-long m _ _ _ q c d)
+      (first-both 8 _ _ _ λ a. first-both 5 _ _ _ λ b. first-both 3 _ _ _ λ c.
+      let few = count-at-most n (indexIn m) most in
+      sym (too-long l _ _ _ p few c) ∙ too-long m _ _ _ q few c)
       ∙ sym (first-next 7 _ _ (omega arith))
 
 module _ (digest : List ℕ → List ℕ) where
@@ -64,7 +67,7 @@ module _ (digest : List ℕ → List ℕ) where
       let m = take 17429 l in
       check-number size root m
       ∙ first-both 1 _ _ _ (λ a. first-both 12 _ _ _ λ b.
-      same-fields size (leaves size) m l (size-front 17429 l (omega arith) p) (index-front 17429 l (omega arith) p) (stated-front 17429 l (omega arith) p)
+      same-fields size (leaves size) (counts-known size a .most) m l (size-front 17429 l (omega arith) p) (index-front 17429 l (omega arith) p) (stated-front 17429 l (omega arith) p)
       (omega (arith, length-take-le 17429 l p)) p _ _)
       ∙ sym (check-number size root l)
 

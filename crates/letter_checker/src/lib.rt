@@ -25,7 +25,7 @@ fn check_refused(number: u32) -> Checked
     }
 }
 
-// Checks a letter. Refuses by 1, 12, 7 (under 20), 8, 5, 15, 3, 7 (exact), 9.
+// Checks a letter. Refuses by 1, 12, 7 (under 20), 8, 5, 3, 7 (exact), 9.
 pub fn check(mode: &[u8; 36], size: u64, root: &[u8], letter: &[u8]) -> Checked
     ensures { λ r. ⌜ checked r ≡ checkOutcome (digestIn (now (mode .entry))) size (now (root .entry)) (now (letter .entry)) ⌝ }
 {

@@ -7,15 +7,13 @@ use borrow.Author.Needs.{needs}
 use lib.ListN.{length}
 use Rattle.order.proofs.Laws.{passes}
 use Rattle.wire.specs.Writers.{writeDone}
-use Rattle.shape.specs.Sizes.{leaves}
 use Rattle.letter.specs.Bytes.{indexIn, recordIn}
-use Rattle.letter.specs.Items.{itemCount}
 use Rattle.letter.proofs.Fits.{Fits}
 use Rattle.letter_writer.specs.Outcome.{writeOrder, writeOver, writeOutcome}
 use Rattle.letter_checker.proofs.Accepted.{accepted-of, accepts}
 use Rattle.letter_checker.specs.Outcome.{CheckOutcome, recordBy}
 use Rattle.letter_promise.specs.Promise.{logSize, recordAt, ours, Accepted, EveryLetterAccepted}
-use Rattle.letter_promise.proofs.Kept.{Kept, logRoot, counts, root-length, record-short, items-few, not-foreign}
+use Rattle.letter_promise.proofs.Kept.{Kept, logRoot, counts, root-length, record-short, not-foreign}
 use Rattle.letter_promise.proofs.Ours.{ours-size, ours-index, ours-stated, ours-record, ours-exact, ours-root}
 
 module _ {digest : List ℕ → List ℕ} {rs : List (List ℕ)} {bs : List ℕ} (k : Kept digest rs bs) where
@@ -53,7 +51,6 @@ module _ {digest : List ℕ → List ℕ} {rs : List (List ℕ)} {bs : List ℕ}
           long = omega (arith, ours-exact k i p);
           named = ours-size k i p;
           inside = omega (arith, ours-index k i p);
-          few = rw (ours-index k i p) (items-few k i p);
           short = omega (arith, ours-stated k i p, record-short k i p);
           exact = ours-exact k i p;
           rooted = sym (ours-root k i p);
@@ -67,7 +64,6 @@ module _ {digest : List ℕ → List ℕ} {rs : List (List ℕ)} {bs : List ℕ}
         let c = counts k in
         let s = record-short k i p in
         let f = not-foreign k i p in
-        let m : itemCount (leaves (logSize rs)) i ≤ 32 = rw (c .value) (items-few k i p) in
         sym (passes _ _ _ {r = writeDone (ours digest rs bs i) out} refl (search needs))
 
   -- the letters that we write are accepted

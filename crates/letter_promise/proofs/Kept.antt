@@ -16,14 +16,14 @@ use Rattle.shape.proofs.Sizes.{size-le, position-answer}
 use Rattle.wire.proofs.Each.{each-map}
 use Rattle.shape.proofs.Trees.{tree-32}
 use Rattle.shape.proofs.Bind.{root-32}
-use Rattle.shape.proofs.Ways.{way-leads, way-at-most}
+use Rattle.shape.proofs.Ways.{way-leads}
 use Rattle.shape.proofs.Leaves.{leaf-read, leaf-digest}
 use Rattle.shape.proofs.Reading.{root-read}
 use Rattle.shape.proofs.Own.{seen-own, broken-own}
 use Rattle.nodes.specs.Nodes.{nodeIn}
 use Rattle.shape.proofs.Counting.{Counts, counts-size}
 use Rattle.log.proofs.Appends.{short-at}
-use Rattle.letter.specs.Items.{itemCount, foreign}
+use Rattle.letter.specs.Items.{foreign}
 use Rattle.letter_finder.specs.Outcome.{ownRoot}
 use Rattle.letter_promise.specs.Promise.{Log, recordAt}
 
@@ -66,10 +66,6 @@ module _ {digest : List ℕ → List ℕ} {rs : List (List ℕ)} {bs : List ℕ}
   module _ (i : ℕ) (p : i < length rs) where
     pub record-short : length (recordAt rs i) ≤ 16384
     record-short = short-at rs i (k .log .short) p
-
-    pub items-few : itemCount (length rs) i ≤ 32
-    unfolding itemCount
-    items-few = way-at-most 32 (length rs) i (k .log .few)
 
     -- the way to leaf i
     pub leads : Leads (tree (map digest rs)) (way (length rs) i) (digest (recordAt rs i))

@@ -1,2 +1,3 @@
--- What writer, checker and finder promise together.
+-- What writer, checker and finder promise together; and number 15, which is struck.
 pub mod Promise
+pub mod Struck

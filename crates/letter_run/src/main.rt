@@ -1,5 +1,5 @@
 // Letters of small logs, each refusal of the writer and of the checker, one letter changed in every place, and the shortcuts that
-// lose a match, to be compared with the second program's. Number 15 is not among the answers: no index of a log needs more than 32 items.
+// lose a match, to be compared with the second program's.
 mod changes;
 mod checks;
 mod letters;

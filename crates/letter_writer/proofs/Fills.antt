@@ -72,12 +72,11 @@ module _ (mode : List ℕ) {size n : ℕ} (index : ℕ) (rec bs : List ℕ) (k :
       ∙ ap (λ (x : ℕ). splice 0 (letterBytes size index rec (itemsOf (digestIn mode) (nodeIn bs) x index)) out) (sym (k .value)))
 
   -- no refusal applies
-  pub none-applies : (out : List ℕ) → length rec ≤ 16384 → 32 * size ≤ length bs → itemCount n index ≤ 32 → foreign (digestIn mode) (nodeIn bs) index rec ≡ 0
+  pub none-applies : (out : List ℕ) → length rec ≤ 16384 → 32 * size ≤ length bs → foreign (digestIn mode) (nodeIn bs) index rec ≡ 0
       → 20 + length rec + 32 * itemCount n index ≤ length out
       → Passes (writeOrder (digestIn mode) (nodeIn bs) (length bs under 32 * size) size index rec out)
   unfolding writeOrder
-  none-applies out short long few own room =
+  none-applies out short long own room =
       let e : leaves size ≡ n = k .value in
-      let c : itemCount (leaves size) index ≡ itemCount n index = ap (λ (m : ℕ). itemCount m index) e in
       let l = our-length in
       search needs

@@ -16,15 +16,14 @@ module _ (digest : List ℕ → List ℕ) where
   unfoldable pub ourLetter : ℕ → ℕ → List ℕ → (ℕ → List ℕ) → List ℕ
   ourLetter size index rec node = letterBytes size index rec (itemsOf digest node (leaves size) index)
 
-  -- no leaf count up to 2^32 has this size; index not below the leaf count; record above 16,384; node buffer too short; more than 32 items needed;
-  -- record's digest isn't the leaf at its place; output buffer too short
+  -- no leaf count up to 2^32 has this size; index not below the leaf count; record above 16,384; node buffer too short; record's digest isn't the
+  -- leaf at its place; output buffer too short
   unfoldable pub writeOrder : (ℕ → List ℕ) → Test → ℕ → ℕ → List ℕ → List ℕ → List Refusal
   writeOrder node short size index rec out =
       1 if countAnswer size .number is 1
       ∷ 5 if index not-below leaves size
       ∷ 3 if length rec above longestRecord
       ∷ 4 if short
-      ∷ 15 if itemCount (leaves size) index above 32
       ∷ 13 if foreign digest node index rec is-not 0
       ∷ 6 if length out under length (ourLetter size index rec node)
       ∷ []

@@ -14,7 +14,7 @@ fn write_refused(number: u32) -> Written
     Written { number, length: 0 }
 }
 
-// Writes the letter for an index of a log of this size, with the record at that index. Refuses by 1, 5, 3, 4, 15, 13, 6.
+// Writes the letter for an index of a log of this size, with the record at that index. Refuses by 1, 5, 3, 4, 13, 6.
 pub fn write_letter(
     mode: &[u8; 36],
     size: u64,
@@ -40,14 +40,11 @@ pub fn write_letter(
     if (nodes.len() as u64) < 32 * size {
         return write_refused(4);
     }
-    let items = letter::count::item_count(n, index) as usize;
-    if 32 < items {
-        return write_refused(15);
-    }
     let own = digest::digest_of(mode, rec);
     if letter::leaf::foreign(nodes, index, own) != 0 {
         return write_refused(13);
     }
+    let items = letter::count::item_count(n, index) as usize;
     let length = letter::HEAD + stated + 32 * items;
     if out.len() < length {
         return write_refused(6);

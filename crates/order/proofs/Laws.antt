@@ -1,11 +1,11 @@
 -- Laws of the refusal order: how an answer is reached, what an answer tells, an order in two parts, one outcome.
 use mathlib.Core.Logic.{_≢_}
 use mathlib.Core.Path.{_≡_, refl, sym, ap, ap₂, _∙_}
-use mathlib.Core.Bool.{Bool, true, false, _&&_, true≢false}
+use mathlib.Core.Bool.{Bool, true, false, not, _&&_, true≢false}
 use mathlib.Core.List.{List, [], _∷_, _++_}
 use Prim.Native.Nat.{ℕ}
 use native.Mathlib.Omega.{arith}
-use borrow.Author.Tests.{ltb-true, eqb-true}
+use borrow.Author.Tests.{ltb-true, eqb-true, eqb-false, not-true}
 use lib.Dec.{T, ltb, eqb}
 use Rattle.order.specs.Order.{Test, applies, Refusal, _if_, verdict, firstNumber}
 use Rattle.order.proofs.Tests.{Fails, false-of, fails-of, by-test}
@@ -100,6 +100,10 @@ first-both m t xs ys h = verdict-both (λ k. k) m t xs ys 0 0 h
 
 -- ---- what an answer tells
 
+-- a computed test of every entry, taken apart at the first
+both : (p q : Bool) → T (p && q) → (p ≡ true) × T q
+both true q h = (refl, h)
+
 -- the number 0 is that of no refusal
 pub clear : (order : List Refusal) → T (numbered order) → firstNumber order ≡ 0 → Passes order
 unfolding firstNumber
@@ -108,9 +112,6 @@ clear (m if t ∷ later) h z =
     let a = both (ltb 0 m) (numbered later) h in
     by-test t (λ e. absurd (omega (arith, ltb-true 0 m (a .0), sym (stop (λ k. k) 0 m t later e) ∙ z)))
     (λ e. (fails-of t e, clear later (a .1) (sym (next (λ k. k) 0 m t later e) ∙ z)))
-  where
-    both : (p q : Bool) → T (p && q) → (p ≡ true) × T q
-    both true q h = (refl, h)
 
 module _ {X : Type 0} (refused : ℕ → X) (done : X) where
   -- the answer by its number
@@ -204,6 +205,29 @@ verdict-test refused xs ys m t u done e =
     one e =
         by-test t (λ p. stop refused done m t ys p ∙ sym (stop refused done m u ys (sym e ∙ p)))
         (λ p. next refused done m t ys p ∙ sym (next refused done m u ys (sym e ∙ p)))
+
+-- a refusal that never applies where those before it do not, left out
+pub verdict-idle : {X : Type 0} (refused : ℕ → X) (xs : List Refusal) (m : ℕ) (t : Test) (ys : List Refusal) (done : X) → (Passes xs → Fails t)
+    → verdict refused (xs ++ (m if t ∷ ys)) done ≡ verdict refused (xs ++ ys) done
+verdict-idle refused [] m t ys done h = next refused done m t ys (false-of t (h tt))
+verdict-idle refused (k if u ∷ xs) m t ys done h =
+    verdict-both refused k u (xs ++ (m if t ∷ ys)) (xs ++ ys) done done (λ f. verdict-idle refused xs m t ys done (λ p. h (f, p)))
+
+-- ---- a number that an order does not have
+
+-- no entry of an order has the number n: `tt`, where the order is written out
+abbrev pub lacks : ℕ → List Refusal → Bool
+lacks n [] = true
+lacks n (m if t ∷ later) = not (eqb n m) && lacks n later
+
+-- it is answered to no input
+pub never : (n : ℕ) (order : List Refusal) → T (lacks n order) → n ≢ 0 → firstNumber order ≢ n
+unfolding firstNumber verdict
+never n [] h z e = z (sym e)
+never n (m if t ∷ later) h z e =
+    let a = both (not (eqb n m)) (lacks n later) h in
+    by-test t (λ p. eqb-false n m (not-true (eqb n m) (a .0)) (sym e ∙ stop (λ k. k) 0 m t later p))
+    (λ p. never n later (a .1) z (sym (next (λ k. k) 0 m t later p) ∙ e))
 
 -- ---- one outcome
 

@@ -1,4 +1,4 @@
--- The way to a leaf: its equations, that it leads there, and that it has at most 32 turns in a log of up to 2^32 leaves.
+-- The way to a leaf: its equations, that it leads there, and that it has at most h turns where there are at most 2^h leaves.
 use mathlib.Core.Path.{_≡_, _∙_}
 use mathlib.Core.Logic.{by-cases}
 use mathlib.Core.Bool.{Bool, true, false}
@@ -13,9 +13,8 @@ use lib.Dec.{eqb}
 use borrow.Author.Tests.{le-leb, lt-leb, lt-ltb, le-ltb, eq-eqb, ne-eqb}
 use Rattle.shape.specs.Tree.{Tree, fork, Turn, left, right, past}
 use Rattle.shape.specs.Folded.{treeIn, tree}
-use Rattle.shape.specs.Letter.{rightward, wayIn, way, Leads, here, to-left, to-right, to-past, items}
+use Rattle.shape.specs.Letter.{rightward, wayIn, way, Leads, here, to-left, to-right, to-past}
 use Rattle.shape.proofs.Heights.{any-height, height-holds}
-use Rattle.shape.proofs.Letters.{items-length}
 use Rattle.shape.proofs.Trees.{tree-low, tree-high}
 
 pub way-low : (h n i : ℕ) → n ≤ 2 ^ h → wayIn (suc h) n i ≡ wayIn h n i
@@ -88,8 +87,3 @@ way-most (suc h) n i =
 
 pub way-at-most : (h n i : ℕ) → n ≤ 2 ^ h → length (way n i) ≤ h
 way-at-most h n i p = rw (← way-any h n i p) (way-most h n i)
-
--- no index of a log of up to 2^32 leaves needs more than 32 items
-pub items-at-most : (digest : List ℕ → List ℕ) (ds : List (List ℕ)) (i : ℕ) → i < length ds → length ds ≤ 2 ^ 32
-    → length (items digest (tree ds) (way (length ds) i)) ≤ 32
-items-at-most digest ds i p q = rw (items-length digest (way-leads ds i p)) (way-at-most 32 (length ds) i q)
