@@ -2,15 +2,15 @@
 
 function show(at,    ratio) {
     ratio = count["find", at] / count["check", at]
-    printf "%-20s %9.0f %9.0f %7.3f %9.0f %9.0f %7.3f", at, count["check", at], count["find", at], ratio, count["gcc", at], count["clang", at],
-        count["find", at] / better(at)
+    printf "%-20s %9s %9.0f %9.0f %7.3f %9.0f %9.0f %7.3f", at, ("write", at) in count ? count["write", at] : "", count["check", at],
+        count["find", at], ratio, count["gcc", at], count["clang", at], count["find", at] / better(at)
     if (timed) printf " %10.0f %8.0f", time["check", at], time["find", at]
     print ""
     if (ratio > worst) worst = ratio
 }
 
 END {
-    printf "\n%-20s %9s %9s %7s %9s %9s %7s%s\n", "leaves", "check", "find", "ratio", "C, gcc", "C, clang", "ratio",
+    printf "\n%-20s %9s %9s %9s %7s %9s %9s %7s%s\n", "leaves", "write", "check", "find", "ratio", "C, gcc", "C, clang", "ratio",
         timed ? "  ns: check     find" : ""
     for (i = 1; i <= n; i++) show(rows[i])
     print ""

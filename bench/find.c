@@ -1,5 +1,5 @@
-/* The program that bench/find.sh counts: keeper_find on a letter, our own and one that is refused; keeper_letter_check on the same letter; and the
-   finder's digests alone, by BLAKE3's portable C by two compilers, whose roots are compared with the keeper's. */
+/* The program that bench/find.sh counts: keeper_letter_write; keeper_find on that letter and on one that is refused; keeper_letter_check on the same
+   letter; and the finder's digests alone, by BLAKE3's portable C by two compilers, whose roots are compared with the keeper's. */
 #define _GNU_SOURCE
 #include <stdint.h>
 #include <stdlib.h>
@@ -122,7 +122,7 @@ static void measure(const char *name, const Log *log, size_t length, uint32_t wa
     compare(wanted != KEEPER_DONE, name);
 }
 
-/* Our letter, and the same with one bit of the record changed. */
+/* Our letter, written, and the same with one bit of the record changed. */
 static void measure_log(Log log) {
     size_t length = 0;
     char refused[64];
@@ -130,7 +130,9 @@ static void measure_log(Log log) {
     demand(keeper_size(log.leaves, &log.size) == KEEPER_DONE, "no size", log.name);
     make_log(&log);
     demand(keeper_root(&mode, log.size, nodes, NODE * log.size, root, NODE) == KEEPER_DONE, "no root", log.name);
-    uint32_t number = keeper_letter_write(&mode, log.size, log.index, record, RECORD, nodes, NODE * log.size, letter, sizeof letter, &length);
+    uint32_t number = 1;
+    MEASURE("write", log.name,
+            number = keeper_letter_write(&mode, log.size, log.index, record, RECORD, nodes, NODE * log.size, letter, sizeof letter, &length));
     demand(number == KEEPER_DONE, "no letter", log.name);
     measure(log.name, &log, length, KEEPER_DONE);
     letter[HEAD] ^= 1;

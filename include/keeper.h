@@ -48,8 +48,7 @@ enum {
     KEEPER_OTHER_RECORD = 13,
     /* finder: a node on the path, within its peak, isn't the digest of its two children: the nodes are damaged; take them from a copy */
     KEEPER_DAMAGED_NODES = 14,
-    /* more than 32 items needed: no index of a log does, and no call answers it */
-    KEEPER_TOO_MANY_ITEMS = 15,
+    /* 15 is struck: it was for a letter of more than 32 items, which no log needs. No call answers it, and it will never mean anything else */
     /* key not 32 bytes: take the league's key whole, and nothing with it */
     KEEPER_NOT_A_KEY = 24
 };
@@ -116,12 +115,12 @@ uint32_t keeper_read_node(const uint8_t *bytes, size_t bytes_len, uint32_t *kind
 
 /* The letter of an index, into the first bytes of out: size (8), index (8), record length (4), all big-endian; record; items of 32 bytes. The
    record is the one that was logged there, and nodes the log's. length is how many bytes were written, 20 + rec_len + 32 for each item, of
-   which there are at most 32. 1, 5, 3, 4, 15, 13, 6. */
+   which there are at most 32. 1, 5, 3, 4, 13, 6. */
 uint32_t keeper_letter_write(const keeper_mode *mode, uint64_t size, uint64_t index, const uint8_t *rec, size_t rec_len, const uint8_t *nodes,
                              size_t nodes_len, uint8_t *out, size_t out_len, size_t *length);
 
 /* A letter, checked against a size and a root that the caller trusts: its index, and its record, which is the record_len bytes from
-   letter + record_at on. 1, 12, 7 (under 20 bytes), 8, 5, 15, 3, 7 (the exact length), 9. */
+   letter + record_at on. 1, 12, 7 (under 20 bytes), 8, 5, 3, 7 (the exact length), 9. */
 uint32_t keeper_letter_check(const keeper_mode *mode, uint64_t size, const uint8_t *root, size_t root_len, const uint8_t *letter, size_t letter_len,
                              uint64_t *index, size_t *record_at, size_t *record_len);
 
@@ -129,7 +128,7 @@ uint32_t keeper_letter_check(const keeper_mode *mode, uint64_t size, const uint8
    root down, each 64-byte input of the log with that of the letter. At the first difference found is KEEPER_PAIR, with the log's input in the first
    64 bytes of first and the letter's in those of second: two different strings with one digest in that mode. With none it compares the records:
    KEEPER_RECORDS if they differ (rec and the letter's are then the two strings), else KEEPER_SAME. The buffers change only for KEEPER_PAIR.
-   1, 10, 4, then with the root of its own nodes 7 (under 20 bytes), 8, 5, 15, 3, 7 (the exact length), 9, then for rec 3 and 13, then 14,
+   1, 10, 4, then with the root of its own nodes 7 (under 20 bytes), 8, 5, 3, 7 (the exact length), 9, then for rec 3 and 13, then 14,
    6 (either buffer under 64, whatever the outcome). */
 uint32_t keeper_find(const keeper_mode *mode, uint64_t size, const uint8_t *nodes, size_t nodes_len, const uint8_t *rec, size_t rec_len,
                      const uint8_t *letter, size_t letter_len, uint8_t *first, size_t first_len, uint8_t *second, size_t second_len,

@@ -114,7 +114,7 @@ def say_read_node(numbers, data, kind, out, record_at, record_len):
     return number, [data, u32(leaf), read.digest + out[NODE:], u64(37 if leaf else 0), u64(len(read.record))]
 
 
-# A call: what the second program says of it, and the numbers of its order that an input can have. 15 is none: no size and index needs so many items.
+# A call: what the second program says of it, and the numbers of its order.
 Call = namedtuple("Call", "say order")
 CALLS = {
     "mode_plain": Call(say_mode_plain, (0,)),

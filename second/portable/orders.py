@@ -14,11 +14,11 @@ from rules.shape import MOST_LEAVES, nodes_of
 
 LEAVES, INDEX = 3, 0
 # An order: its entries, each a number and where there are two of it a word for which.
-FROM_7 = ("7 (under 20 bytes)", "8", "5", "15", "3 (stated length)", "7 (exact length)", "9")
+FROM_7 = ("7 (under 20 bytes)", "8", "5", "3 (stated length)", "7 (exact length)", "9")
 ORDERS = {
     "append": ("1", "2", "3", "4"),
     "root": ("1", "10", "4"),
-    "letter_write": ("1", "5", "3", "4", "15", "13", "6"),
+    "letter_write": ("1", "5", "3", "4", "13", "6"),
     "letter_check": ("1", "12", *FROM_7),
     "find": ("1", "10", "4", *FROM_7, "3 (record)", "13", "14", "6 (first buffer)", "6 (second buffer)"),
 }
@@ -31,7 +31,7 @@ def letter_from(size, index, stated, body, length):
 
 
 def letter_changes(letter, stated):
-    """A letter's parts, and for each entry of the order from 7 a change of them to which it applies. No log needs 15."""
+    """A letter's parts, and for each entry of the order from 7 a change of them to which it applies."""
     body, parts = letter[LETTER_HEAD:], ("letter size", "letter index", "stated", "body", "length")
     true = dict(zip(parts, (nodes_of(LEAVES), INDEX, stated, body, len(letter))))
     return true, {

@@ -54,7 +54,7 @@ def first_of(refusals):
 
 
 def writing(size, index, record, buffer, out, digest):
-    """The refusals of writing a letter: 1, 5, 3, 4, 15, 13, 6."""
+    """The refusals of writing a letter: 1, 5, 3, 4, 13, 6."""
     number, leaves = leaf_count(size)
     if number != 0:
         yield number
@@ -64,12 +64,9 @@ def writing(size, index, record, buffer, out, digest):
         yield 3
     if len(buffer) < NODE * size:
         yield 4
-    items = items_of(leaves, index)
-    if len(items) > MOST_ITEMS:
-        yield 15
     if node(buffer, nodes_of(index)) != digest(record):
         yield 13
-    if len(out) < LETTER_HEAD + len(record) + NODE * len(items):
+    if len(out) < LETTER_HEAD + len(record) + NODE * len(items_of(leaves, index)):
         yield 6
 
 
@@ -115,19 +112,16 @@ def worked_root(leaves, letter, digest):
 
 
 def checking_from_7(size, leaves, top, letter, digest):
-    """The refusals of checking a letter, from 7: 7 (short), 8, 5, 15, 3, 7 (exact), 9."""
+    """The refusals of checking a letter, from 7: 7 (short), 8, 5, 3, 7 (exact), 9."""
     if len(letter) < LETTER_HEAD:
         yield 7
     if size_in(letter) != size:
         yield 8
     if index_in(letter) >= leaves:
         yield 5
-    items = len(items_of(leaves, index_in(letter)))
-    if items > MOST_ITEMS:
-        yield 15
     if stated_in(letter) > LONGEST_RECORD:
         yield 3
-    if len(letter) != LETTER_HEAD + stated_in(letter) + NODE * items:
+    if len(letter) != LETTER_HEAD + stated_in(letter) + NODE * len(items_of(leaves, index_in(letter))):
         yield 7
     if worked_root(leaves, letter, digest) != top:
         yield 9
