@@ -8,7 +8,8 @@ from page import check_page
 from portable.orders import check_orders
 from rules.blake3 import PLAIN, Mode, digest, keyed
 from rules.finder import PAIR, find, log_inputs
-from rules.letters import LETTER_HEAD, MOST_ITEMS, WHOLE_LETTER, check_letter, index_in, items_in, letter_bytes, letter_inputs, letter_of, record_in, size_in
+from rules.letters import LETTER_HEAD, MOST_ITEMS, WHOLE_LETTER, check_letter, index_in, items_in, letter_bytes, letter_inputs, letter_of, record_in
+from rules.letters import size_in
 from rules.log import NODE, append, folded, node, root, split_root
 from rules.shape import MOST_LEAVES, items_of, leaf_count, leaf_position, nodes_of, size_of, trailing_ones
 from table import check_numbers
@@ -112,7 +113,8 @@ def check_items():
     """No size and index within the limits needs more than 32 items: leaf counts and indexes around every power of two, and small logs whole."""
     near = sorted({at + step for at in (1 << height for height in range(33)) for step in (-1, 0, 1) if 0 < at + step <= MOST_LEAVES})
     some = [(leaves, index) for leaves in near for index in {0, leaves // 2, leaves - 1, *(at for at in near if at < leaves)}]
-    counts = Counter(len(items_of(leaves, index)) for leaves, index in [*some, *((leaves, index) for leaves in range(1, 130) for index in range(leaves))])
+    small = [(leaves, index) for leaves in range(1, 130) for index in range(leaves)]
+    counts = Counter(len(items_of(leaves, index)) for leaves, index in some + small)
     print(f"items: {sum(counts.values())} indexes need {min(counts)} to {max(counts)}")
     return (min(counts), max(counts)) == (0, MOST_ITEMS)
 

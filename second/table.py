@@ -9,10 +9,11 @@ TOP = Path(__file__).resolve().parent.parent
 # A number that was in the table and is never used again, and the name that it had for C.
 STRUCK, NAME = 15, "KEEPER_TOO_MANY_ITEMS"
 # Where a call, a table or a constant could use it: no line there has it, but for those below and those that say that it is struck.
-SCANNED = ("crates/*/src/**/*.rt", "crates/*/specs/**/*.antt", "include/*.h", "hosts/*.[ch]", "man/*", "completion/*", "second/rules/*.py", "outside/*.[pc]*")
+SCANNED = ("crates/*/src/**/*.rt", "crates/*/specs/**/*.antt", "include/*.h", "hosts/*.[ch]", "man/*", "completion/*", "second/rules/*.py",
+           "outside/*.[pc]*")
 # The orders with it, kept to say that every answer by them is the answer without it.
 KEPT = "crates/letter_promise/specs/Struck.antt"
-# Lines in which these digits are something else: the words of a compression, a block of a chunk, the size of eight leaves, bits, a log of so many leaves.
+# Lines in which it is something else: a word of a compression, a chunk's last block, the size of eight leaves, bits, a log of so many leaves.
 OTHERS = {
     "const ORDER: [usize; 16] = [2, 6, 3, 10, 7, 0, 4, 13, 1, 11, 12, 5, 9, 14, 15, 8];",
     "let u = mix(s[3], s[7], s[11], s[15], m[6], m[7]);",
@@ -33,8 +34,8 @@ OTHERS = {
     'return Case("read_node", (), [data, u32(77), b"\\x1e" * room, u64(15 << 33), u64(17 << 33)])',
 }
 # Lines of each kind that use it, which have to be noticed.
-PLANTED = ("return write_refused(15);", "∷ 15 if itemCount n i above 32", "KEEPER_TOO_MANY_ITEMS = 15,", "case 15:", "15 KEEPER_TOO_MANY_ITEMS", "yield 15",
-           "const TOO_MANY: u32 = 15;", "6, 15 (either buffer). */", 'Call(say_find, (0, 1, 15)),')
+PLANTED = ("return write_refused(15);", "∷ 15 if itemCount n i above 32", "KEEPER_TOO_MANY_ITEMS = 15,", "case 15:", "15 KEEPER_TOO_MANY_ITEMS",
+           "yield 15", "const TOO_MANY: u32 = 15;", "6, 15 (either buffer). */", 'Call(say_find, (0, 1, 15)),')
 
 
 def sections():
@@ -74,7 +75,8 @@ def uses():
     for path in sorted({path for where in SCANNED for path in TOP.glob(where) if path.is_file() and path.relative_to(TOP) != Path(KEPT)}):
         yield from ((path.relative_to(TOP), line.strip()) for line in path.read_text().splitlines() if used(line))
     for path in (TOP / "docs" / "RULES.md", *sorted(TOP.glob("crates/*/README.md"))):
-        yield from ((path.relative_to(TOP), line) for line in re.findall(rf"^.*(?:the first of [^|]*\b{STRUCK}\b|[;.] {STRUCK};).*$", path.read_text(), re.M))
+        found = re.findall(rf"^.*(?:the first of [^|]*\b{STRUCK}\b|[;.] {STRUCK};).*$", path.read_text(), re.M)
+        yield from ((path.relative_to(TOP), line) for line in found)
 
 
 def check_numbers():
@@ -87,5 +89,6 @@ def check_numbers():
               if f"{STRUCK} is struck" not in (TOP / path).read_text()]
     for line in wrong:
         print(f"numbers: {line}")
-    print(f"numbers: {len(numbers)} in tables, constants, orders and vectors, and {STRUCK}, which is struck, {'in none' if not wrong else 'to be looked at'}")
+    said = "to be looked at" if wrong else "in none"
+    print(f"numbers: {len(numbers)} in tables, constants, orders and vectors, and {STRUCK}, which is struck, {said}")
     return len(numbers) > 1 and not wrong

@@ -19,11 +19,12 @@ use Rattle.letter.specs.Bytes.{indexIn, recordIn, itemsIn}
 unfoldable pub itemCount : ℕ → ℕ → ℕ
 itemCount n i = length (way n i)
 
--- no size and index within the limits needs more than 32 items: for every size that has a leaf count up to 2^32, and every index below that count,
--- those that RULES 9.2 lists are at most 32 (`items-at-most`)
+-- the most items that a letter has
 abbrev pub mostItems : ℕ
 mostItems = 32
 
+-- no size and index within the limits needs more: for every size that has a leaf count up to 2^32, and every index below that count, those that
+-- RULES 9.2 lists are at most 32 (`items-at-most`)
 abbrev pub ItemsAtMost : Type 0
 ItemsAtMost = (size i : ℕ) → countAnswer size .number ≢ 1 → i < leaves size → length (itemPositions (leaves size) i) ≤ mostItems
 

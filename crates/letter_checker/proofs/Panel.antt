@@ -67,7 +67,8 @@ module _ (digest : List ℕ → List ℕ) where
       let m = take 17429 l in
       check-number size root m
       ∙ first-both 1 _ _ _ (λ a. first-both 12 _ _ _ λ b.
-      same-fields size (leaves size) (counts-known size a .most) m l (size-front 17429 l (omega arith) p) (index-front 17429 l (omega arith) p) (stated-front 17429 l (omega arith) p)
+      same-fields size (leaves size) (counts-known size a .most) m l
+      (size-front 17429 l (omega arith) p) (index-front 17429 l (omega arith) p) (stated-front 17429 l (omega arith) p)
       (omega (arith, length-take-le 17429 l p)) p _ _)
       ∙ sym (check-number size root l)
 
