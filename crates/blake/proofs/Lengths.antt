@@ -1,4 +1,4 @@
--- How long each result is, and that a digest is 32 bytes, each below 256.
+-- A digest is 32 bytes, each below 256.
 use mathlib.Core.Path.{_≡_, subst⁻¹}
 use mathlib.Core.List.{List}
 use mathlib.Core.Logic.{by-cases}
@@ -10,22 +10,9 @@ use lib.Dec.{lit<}
 use lib.ListN.{length, getD, List·getD-eq-default}
 use Rattle.words.specs.Build.{build}
 use Rattle.words.proofs.Builds.{build-length, build-at}
-use Rattle.compression.specs.Compression.{starting, compressed, halved}
+use Rattle.compression.specs.Compression.{starting}
 use Rattle.words.specs.Words.{byteOf, bytesOf, wordsOf}
-use Rattle.blake.specs.Blake.{rootNode, keyedFlag, chained, chunked, treeOf, digested, plainHash, keyedHash, hashIn}
-
-pub compressed-length : (cv m : List ℕ) (n len flags : ℕ) → length (compressed cv m n len flags) ≡ 8
-unfolding compressed halved
-compressed-length cv m n len flags = build-length 8 _
-
-pub chained-length : (key : List ℕ) (flag n : ℕ) (bs : List ℕ) (i : ℕ) → length key ≡ 8 → length (chained key flag n bs i) ≡ 8
-unfolding chained
-chained-length key flag n bs zero e = e
-chained-length key flag n bs (suc i) e = compressed-length _ _ _ _ _
-
-pub chunked-length : (key : List ℕ) (flag root n : ℕ) (bs : List ℕ) → length (chunked key flag root n bs) ≡ 8
-unfolding chunked
-chunked-length key flag root n bs = compressed-length _ _ _ _ _
+use Rattle.blake.specs.Blake.{rootNode, keyedFlag, treeOf, digested, plainHash, keyedHash, hashIn}
 
 byte-small : (ws : List ℕ) (k : ℕ) → byteOf ws k < 256
 unfolding byteOf

@@ -3,4 +3,3 @@ mod Sides
 pub mod Rule
 pub mod Lengths
 mod Modes
-mod Laned

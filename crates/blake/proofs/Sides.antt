@@ -8,7 +8,8 @@ use native.Mathlib.Omega.{arith}
 use lib.ListN.{length, take, drop}
 use lib.Pow.{pow-mono}
 use borrow.Author.Tests.{le-leb, lt-leb}
-use Rattle.blake.specs.Blake.{chunked, parented, treed, treeOf}
+use Rattle.chunks.specs.Chunks.{chunked}
+use Rattle.blake.specs.Blake.{parented, treed, treeOf}
 
 pub lt-pow : (n : ℕ) → n < 2 ^ n
 lt-pow zero = omega arith

@@ -3,7 +3,8 @@ use mathlib.Core.Path.{_≡_}
 use mathlib.Core.List.{List}
 use Prim.Native.Nat.{ℕ, _+_, _-_, _*_, _/_, _^_, _≤_, _<_}
 use lib.ListN.{length, take, drop}
-use Rattle.blake.specs.Blake.{chunked, parented, treeOf}
+use Rattle.chunks.specs.Chunks.{chunked}
+use Rattle.blake.specs.Blake.{parented, treeOf}
 
 -- how many chunks of 1,024 bytes the input is cut into, the last may be shorter; empty input is one empty chunk
 unfoldable pub chunks : List ℕ → ℕ

@@ -1,13 +1,12 @@
-// The flags of a compression.
-pub(crate) const CHUNK_START: u32 = 1;
-
-pub(crate) const CHUNK_END: u32 = 2;
+// The flags of a compression that a chunk does not set by itself. What is handed in to one is a byte.
+use chunks::CHUNK_END;
+use chunks::CHUNK_START;
 
 pub(crate) const PARENT: u32 = 4;
 
-pub(crate) const ROOT: u32 = 8;
+pub(crate) const ROOT: u8 = 8;
 
-pub(crate) const KEYED: u32 = 16;
+pub(crate) const KEYED: u8 = 16;
 
 // One block that is a chunk, and the root.
-pub(crate) const ONLY_BLOCK: u32 = CHUNK_START + CHUNK_END + ROOT;
+pub(crate) const ONLY_BLOCK: u32 = CHUNK_START + CHUNK_END + ROOT as u32;

@@ -1,13 +1,10 @@
 // BLAKE3 with 32 bytes of output, plain or keyed: the hash of any slice, and of two digests.
 ghost use mathlib.Core.Path.{_≡_};
 ghost use mathlib.Core.List.{_++_};
-ghost use Prim.Native.Nat.{_≤_};
 ghost use Rattle.blake.specs.Blake.{hashIn};
 ghost use Rattle.blake.specs.Steps.{wordsIn, flagIn};
 
-mod chunk;
 mod flags;
-mod lane;
 mod tree;
 
 use compression::compress::START;
@@ -24,8 +21,8 @@ fn words_in(keyed: u32, key: &[u8; 32]) -> [u32; 8]
 }
 
 // The flag on every compression.
-fn flag_in(keyed: u32) -> u32
-    ensures { λ r. ⌜ (r ≡ flagIn keyed) × (r ≤ 16) ⌝ }
+fn flag_in(keyed: u32) -> u8
+    ensures { λ r. ⌜ r ≡ flagIn keyed ⌝ }
 {
     if keyed == 0 {
         return 0;

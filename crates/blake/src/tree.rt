@@ -5,28 +5,27 @@ ghost use Prim.Native.Nat.{_+_, _*_, _^_, _<_, _≤_};
 ghost use lib.ListN.{length};
 ghost use Rattle.blake.specs.Blake.{parented, treed, digested};
 ghost use Rattle.blake.specs.Steps.{Room};
-use crate::chunk::chunk;
 use crate::flags::ONLY_BLOCK;
 use crate::flags::PARENT;
 use crate::flags::ROOT;
-use crate::lane::chunk4;
-use crate::lane::lane;
+use chunks::chunk;
+use chunks::lane::chunk4;
+use chunks::lane::lane;
 use compression::compress::compress;
 use words::join;
 use words::load_half;
 use words::unload;
 
 // A parent of two chaining values.
-fn parent(key: [u32; 8], flag: u32, root: u32, l: [u32; 8], r: [u32; 8]) -> [u32; 8]
-    requires { ⌜ (flag ≤ 16) × (root ≤ 8) ⌝ }
+fn parent(key: [u32; 8], flag: u8, root: u8, l: [u32; 8], r: [u32; 8]) -> [u32; 8]
     ensures { λ v. ⌜ v ≡ parented key flag root l r ⌝ }
 {
-    compress(key, join(l, r), 0, 64, flag + PARENT + root)
+    compress(key, join(l, r), 0, 64, flag as u32 + PARENT + root as u32)
 }
 
 // The tree over four whole chunks.
-fn quad(key: [u32; 8], flag: u32, root: u32, n: u64, bytes: &[u8]) -> [u32; 8]
-    requires { ⌜ (flag ≤ 16) × (root ≤ 8) × (length (now bytes) ≡ 4096) × (n + 4 ≤ 2 ^ 54) ⌝ }
+fn quad(key: [u32; 8], flag: u8, root: u8, n: u64, bytes: &[u8]) -> [u32; 8]
+    requires { ⌜ (length (now bytes) ≡ 4096) × (n + 4 ≤ 2 ^ 54) ⌝ }
     ensures { λ r. ⌜ r ≡ treed 2 key flag root n (now (bytes .entry)) ⌝ }
 {
     let v = chunk4(key, flag, n, bytes);
@@ -44,8 +43,8 @@ fn power(h: u32) -> u64
 }
 
 // The tree over at most 2^h chunks, the first of number n.
-fn tree(h: u32, key: [u32; 8], flag: u32, root: u32, n: u64, bytes: &[u8]) -> [u32; 8]
-    requires { ⌜ Room h flag root n (length (now bytes)) ⌝ }
+fn tree(h: u32, key: [u32; 8], flag: u8, root: u8, n: u64, bytes: &[u8]) -> [u32; 8]
+    requires { ⌜ Room h n (length (now bytes)) ⌝ }
     ensures { λ r. ⌜ r ≡ treed h key flag root n (now (bytes .entry)) ⌝ }
 {
     if bytes.len() <= 1024 {
@@ -77,8 +76,7 @@ fn height(len: usize) -> u32
 }
 
 // The digest in a mode: the words that chaining begins with, and a flag on every compression.
-pub(crate) fn digest_in(key: [u32; 8], flag: u32, bytes: &[u8]) -> [u8; 32]
-    requires { ⌜ flag ≤ 16 ⌝ }
+pub(crate) fn digest_in(key: [u32; 8], flag: u8, bytes: &[u8]) -> [u8; 32]
     ensures { λ r. ⌜ r ≡ digested key flag (now (bytes .entry)) ⌝ }
 {
     let h = height(bytes.len());
@@ -86,10 +84,9 @@ pub(crate) fn digest_in(key: [u32; 8], flag: u32, bytes: &[u8]) -> [u8; 32]
 }
 
 // The digest of two digests in a mode: chunk start, chunk end and root on one block.
-pub(crate) fn pair_in(key: [u32; 8], flag: u32, left: [u8; 32], right: [u8; 32]) -> [u8; 32]
-    requires { ⌜ flag ≤ 16 ⌝ }
+pub(crate) fn pair_in(key: [u32; 8], flag: u8, left: [u8; 32], right: [u8; 32]) -> [u8; 32]
     ensures { λ r. ⌜ r ≡ digested key flag (left ++ right) ⌝ }
 {
     let m = join(load_half(&left), load_half(&right));
-    unload(compress(key, m, 0, 64, flag + ONLY_BLOCK))
+    unload(compress(key, m, 0, 64, flag as u32 + ONLY_BLOCK))
 }

@@ -12,7 +12,7 @@ returns : tie.Need-returns
 returns c =
     let a = c .before .before .before .before .args in
     c .digest-in .ensures
-    ∙ ap₂ (λ (w : List ℕ) (f : ℕ). digested w f (a .bytes .now)) (c .before .before .words-in .ensures) (c .before .flag-in .ensures .0)
+    ∙ ap₂ (λ (w : List ℕ) (f : ℕ). digested w f (a .bytes .now)) (c .before .before .words-in .ensures) (c .before .flag-in .ensures)
     ∙ mode-hash (a .keyed) (a .key .now) (a .bytes .now)
 
 pub hash-spec : {M : Type 1} → statement M

@@ -13,7 +13,7 @@ returns c =
     let a = c .before .before .before .args in
     let both = a .left ++ a .right in
     c .pair-in .ensures
-    ∙ ap₂ (λ (w : List ℕ) (f : ℕ). digested w f both) (c .before .before .words-in .ensures) (c .before .flag-in .ensures .0)
+    ∙ ap₂ (λ (w : List ℕ) (f : ℕ). digested w f both) (c .before .before .words-in .ensures) (c .before .flag-in .ensures)
     ∙ mode-hash (a .keyed) (a .key .now) both
 
 pub hash-pair-spec : {M : Type 1} → statement M

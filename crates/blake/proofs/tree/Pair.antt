@@ -6,7 +6,8 @@ use native.Mathlib.Omega.{arith}
 use lib.ListN.{length, drop, length-append}
 use Rattle.compression.specs.Compression.{compressed}
 use Rattle.words.specs.Words.{wordsOf, bytesOf}
-use Rattle.blake.specs.Blake.{startFlag, chained, before, chunked, digested}
+use Rattle.chunks.specs.Chunks.{startFlag, chained, before, chunked}
+use Rattle.blake.specs.Blake.{digested}
 use Rattle.words.proofs.Blocks.{words-joined}
 use Rattle.blake.proofs.Sides.{tree-chunk, tree-enough}
 

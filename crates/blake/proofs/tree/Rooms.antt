@@ -2,7 +2,7 @@
 use mathlib.Core.Path.{_≡_, refl, ap, ap₂, _∙_, subst⁻¹}
 use mathlib.Core.List.{List}
 use mathlib.Core.Logic.{by-cases}
-use Prim.Native.Nat.{ℕ, zero, suc, _+_, _-_, _*_, _/_, _^_, _≤_, _<_, zero-le}
+use Prim.Native.Nat.{ℕ, zero, suc, _+_, _-_, _*_, _/_, _^_, _≤_, _<_}
 use native.Mathlib.Nat.{pow-suc, mul-comm}
 use native.Mathlib.Decide.{decLt}
 use native.Mathlib.Omega.{arith}
@@ -18,7 +18,7 @@ twice : (h : ℕ) → (h ≡ 0 → ⊥) → 2 ^ h ≡ 2 * 2 ^ (h - 1)
 twice zero ne = absurd (ne refl)
 twice (suc k) ne = pow-suc 2 k ∙ mul-comm (2 ^ k) 2 ∙ ap (λ (j : ℕ). 2 * 2 ^ j) (let e : k ≡ suc k - 1 = omega arith in e)
 
-module _ (h flag root n p : ℕ) (bs : List ℕ) (some : h ≡ 0 → ⊥) (e : p ≡ 2 ^ (h - 1)) (room : Room h flag root n (length bs)) where
+module _ (h n p : ℕ) (bs : List ℕ) (some : h ≡ 0 → ⊥) (e : p ≡ 2 ^ (h - 1)) (room : Room h n (length bs)) where
   -- what is right of the first p chunks, as the code lends it
   abbrev rest : List ℕ
   rest = take (length bs - 1024 * p) (drop (1024 * p) bs)
@@ -26,31 +26,31 @@ module _ (h flag root n p : ℕ) (bs : List ℕ) (some : h ≡ 0 → ⊥) (e : p
   rest-whole : rest ≡ drop (1024 * p) bs
   rest-whole = take-all (length bs - 1024 * p) (drop (1024 * p) bs) (omega (arith, length-drop (1024 * p) bs))
 
-  pub room-short : length bs ≤ 1024 * p → Room (h - 1) flag root n (length bs)
+  pub room-short : length bs ≤ 1024 * p → Room (h - 1) n (length bs)
   room-short l =
       let w : 2 ^ h ≡ 2 * 2 ^ (h - 1) = twice h some in
-      record { height = omega arith; mode = room .mode; last = room .last; bytes = omega arith; chunks = omega arith }
+      record { height = omega arith; bytes = omega arith; chunks = omega arith }
 
-  pub room-left : 1024 * p < length bs → Room (h - 1) flag 0 n (length (take (1024 * p) bs))
+  pub room-left : 1024 * p < length bs → Room (h - 1) n (length (take (1024 * p) bs))
   room-left l =
       let w : 2 ^ h ≡ 2 * 2 ^ (h - 1) = twice h some in
       let k : length (take (1024 * p) bs) ≡ 1024 * p = length-take-le (1024 * p) bs (omega arith) in
-      record { height = omega arith; mode = room .mode; last = zero-le; bytes = omega arith; chunks = omega arith }
+      record { height = omega arith; bytes = omega arith; chunks = omega arith }
 
-  pub room-right : 1024 * p < length bs → Room (h - 1) flag 0 (n + p) (length rest)
+  pub room-right : 1024 * p < length bs → Room (h - 1) (n + p) (length rest)
   room-right l =
       let w : 2 ^ h ≡ 2 * 2 ^ (h - 1) = twice h some in
       let k : length rest ≡ length bs - 1024 * p = ap length rest-whole ∙ length-drop (1024 * p) bs in
-      record { height = omega arith; mode = room .mode; last = zero-le; bytes = omega arith; chunks = omega arith }
+      record { height = omega arith; bytes = omega arith; chunks = omega arith }
 
-  pub fits-short : (key : List ℕ) → length bs ≤ 1024 * p → treed (h - 1) key flag root n bs ≡ treed h key flag root n bs
-  fits-short key l = tree-short key flag root n bs h some (omega arith)
+  pub fits-short : (key : List ℕ) (flag root : ℕ) → length bs ≤ 1024 * p → treed (h - 1) key flag root n bs ≡ treed h key flag root n bs
+  fits-short key flag root l = tree-short key flag root n bs h some (omega arith)
 
-  pub fits-long : (key l r : List ℕ) → 1024 * p < length bs
+  pub fits-long : (key : List ℕ) (flag root : ℕ) (l r : List ℕ) → 1024 * p < length bs
       → l ≡ treed (h - 1) key flag 0 n (take (1024 * p) bs)
       → r ≡ treed (h - 1) key flag 0 (n + p) rest
       → parented key flag root l r ≡ treed h key flag root n bs
-  fits-long key l r b el er =
+  fits-long key flag root l r b el er =
       ap₂ (parented key flag root)
       (el ∙ ap (λ (x : ℕ). treed (h - 1) key flag 0 n (take (1024 * x) bs)) e)
       (er
@@ -59,13 +59,13 @@ module _ (h flag root n p : ℕ) (bs : List ℕ) (some : h ≡ 0 → ⊥) (e : p
       ∙ tree-long key flag root n bs h some (omega arith)
 
 -- more than one chunk has a height
-pub room-some : (h flag root n len : ℕ) → Room h flag root n len → 1024 < len → h ≡ 0 → ⊥
-room-some h flag root n len room l e =
+pub room-some : (h n len : ℕ) → Room h n len → 1024 < len → h ≡ 0 → ⊥
+room-some h n len room l e =
     let w : 2 ^ h ≡ 1 = ap (λ (k : ℕ). 2 ^ k) e in
     omega (arith, room .bytes)
 
-pub room-quad : (h flag root n len : ℕ) → Room h flag root n len → len ≡ 4096 → n + 4 ≤ 2 ^ 54
-room-quad h flag root n len room e = omega (arith, room .bytes, room .chunks)
+pub room-quad : (h n len : ℕ) → Room h n len → len ≡ 4096 → n + 4 ≤ 2 ^ 54
+room-quad h n len room e = omega (arith, room .bytes, room .chunks)
 
 -- the height of a length, by its leading zeros
 pub high-enough : (len : ℕ) → 1024 < len → len < 2 ^ 64

@@ -12,7 +12,7 @@ use Rattle.blake.proofs.tree.Rooms.{room-some, room-short, room-left, r
 use Rattle.blake.proofs.tree.tree.Reads as tree
 use Rattle.blake.proofs.tree.tree.Kinds as tree-kinds
 use Rattle.blake.proofs.tree.+tree.Lts-tree as tree-lts
-use Rattle.blake.proofs.chunk.chunk.Reads as chunk
+use Rattle.chunks.proofs.chunk.Reads as chunk
 use Rattle.blake.proofs.tree.parent.Reads as parent
 use Rattle.blake.proofs.tree.power.Reads as power
 use Rattle.blake.proofs.tree.quad.Reads as quad
@@ -37,7 +37,7 @@ some : (t : ℕ) (c : tree-lts.Else1
 some t c =
     let start = c .before .before in
     let k = start .args in
-    room-some (k .h) (k .flag) (k .root) (k .n) (length (k .bytes .now)) (start .pre .1) (c .if1 .left)
+    room-some (k .h) (k .n) (length (k .bytes .now)) (start .pre .1) (c .if1 .left)
 
 pub +tree-spec : {M : Type 1} → statement M
 +tree-spec =
@@ -47,7 +47,7 @@ pub +tree-spec : {M : Type 1} → statement M
     (tree-at t)
     tree.Post
     -- one chunk
-    (λ c κs. let room = c .before .before .pre .1 in (room .mode, room .last, c .if1 .taken))
+    (λ c κs. search needs)
     (λ c.
     let start = c .before .before .before in
     let k = start .args in
@@ -58,7 +58,7 @@ pub +tree-spec : {M : Type 1} → statement M
     (λ c κs.
     let k = c .before .before .before .args in
     let room = c .before .before .before .pre .1 in
-    (room .mode, room .last, c .if2 .taken, room-quad (k .h) (k .flag) (k .root) (k .n) (length (k .bytes .now)) room (c .if2 .taken)))
+    (c .if2 .taken, room-quad (k .h) (k .n) (length (k .bytes .now)) room (c .if2 .taken)))
     (λ c.
     let start = c .before .before .before .before in
     let k = start .args in
@@ -77,7 +77,7 @@ pub +tree-spec : {M : Type 1} → statement M
     let p = c .before .power in
     let s = some t (c .before .before .before) in (
       omega (arith, start .pre .0, s),
-      room-short (k .h) (k .flag) (k .root) (k .n) (p .result) (k .bytes .now) s (p .ensures .0)
+      room-short (k .h) (k .n) (p .result) (k .bytes .now) s (p .ensures .0)
           (start .pre .1) (c .if3 .taken),
     ))
     (λ c.
@@ -85,8 +85,8 @@ pub +tree-spec : {M : Type 1} → statement M
     let k = start .args in
     let p = c .before .before .power in
     c .tree .ensures
-    ∙ fits-short (k .h) (k .flag) (k .root) (k .n) (p .result) (k .bytes .now) (some t (c .before .before .before .before)) (p .ensures .0)
-    (start .pre .1) (k .key) (c .before .if3 .taken))
+    ∙ fits-short (k .h) (k .n) (p .result) (k .bytes .now) (some t (c .before .before .before .before)) (p .ensures .0)
+    (start .pre .1) (k .key) (k .flag) (k .root) (c .before .if3 .taken))
     -- the left side
     (λ c.
     let k = c .before .before .before .before .before .before .args in
@@ -98,7 +98,7 @@ pub +tree-spec : {M : Type 1} → statement M
     let p = c .before .before .power in
     let s = some t (c .before .before .before .before) in (
       omega (arith, start .pre .0, s),
-      room-left (k .h) (k .flag) (k .root) (k .n) (p .result) (k .bytes .now) s
+      room-left (k .h) (k .n) (p .result) (k .bytes .now) s
           (p .ensures .0) (start .pre .1) (c .before .if3 .left),
     ))
     -- the right side
@@ -112,7 +112,7 @@ pub +tree-spec : {M : Type 1} → statement M
     let p = c .before .before .before .before .power in
     let s = some t (c .before .before .before .before .before .before) in (
       omega (arith, start .pre .0, s),
-      room-right (k .h) (k .flag) (k .root) (k .n) (p .result) (k .bytes .now) s (p .ensures .0)
+      room-right (k .h) (k .n) (p .result) (k .bytes .now) s (p .ensures .0)
           (start .pre .1) (c .before .before .before .if3 .left),
     ))
     -- the parent of both
@@ -123,5 +123,5 @@ pub +tree-spec : {M : Type 1} → statement M
     let p = c .before .before .before .before .before .before .power in
     let s = some t (c .before .before .before .before .before .before .before .before) in
     c .parent .ensures
-    ∙ fits-long (k .h) (k .flag) (k .root) (k .n) (p .result) (k .bytes .now) s (p .ensures .0) (start .pre .1) (k .key) _ _
+    ∙ fits-long (k .h) (k .n) (p .result) (k .bytes .now) s (p .ensures .0) (start .pre .1) (k .key) (k .flag) (k .root) _ _
     (c .before .before .before .before .before .if3 .left) (c .before .before .before .tree2 .ensures) (c .before .tree3 .ensures)))

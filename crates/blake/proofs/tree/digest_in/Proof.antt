@@ -14,8 +14,6 @@ tree-requires c κs =
     let h = c .height in
     record {
       height = h .ensures .0;
-      mode = c .before .before .pre;
-      last = omega arith;
       bytes = h .ensures .1;
       chunks = omega (arith, pow-mono {i = h .result} {j = 54} (h .ensures .0));
     }

@@ -1,6 +1,6 @@
 -- Four lanes and three parents are the tree of height 2.
 use native.Mathlib.Omega.{arith}
-use Rattle.blake.proofs.Laned.{quad-from}
+use Rattle.blake.proofs.tree.Four.{quad-from}
 use borrow.Author.Needs.{needs}
 use Rattle.blake.proofs.tree.quad.Statement.{statement}
 use Rattle.blake.proofs.tree.quad.Tie as tie
@@ -8,7 +8,7 @@ use Rattle.blake.proofs.tree.quad.Tie as tie
 returns : tie.Need-returns
 returns c =
     let a = c .before .before .before .before .before .before .before .before .before .before .before .before .before .args in
-    quad-from (a .key) (a .flag) (a .n) (a .bytes .now) (a .root) (omega arith)
+    quad-from (a .key) (a .flag) (a .n) (a .bytes .now) (a .root) (omega arith) (omega arith)
     (c .before .before .before .before .before .before .before .before .before .before .before .chunk4 .ensures)
     (c .before .before .before .before .before .before .before .before .before .lane .ensures)
     (c .before .before .before .before .before .before .before .lane2 .ensures)

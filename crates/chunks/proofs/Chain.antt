@@ -6,7 +6,7 @@ use native.Mathlib.Omega.{arith}
 use lib.ListN.{length, take, drop}
 use Rattle.compression.specs.Compression.{compressed}
 use Rattle.words.specs.Words.{wordsOf}
-use Rattle.blake.specs.Blake.{startFlag, chained, before, chunked}
+use Rattle.chunks.specs.Chunks.{startFlag, chained, before, chunked}
 
 -- cv holds the chaining words where the block at place `at` begins, and `start` that block's start flag
 pub record Chains (key : List ℕ) (flag n : ℕ) (bs cv : List ℕ) (start at : ℕ) : Type 0 where

@@ -1,18 +1,19 @@
 -- Lane after lane is filled: the inner loop stores the eight words of one compression.
-use mathlib.Core.Path.{refl, ap, ap₂, _∙_}
+use mathlib.Core.Path.{_≡_, refl, ap, ap₂, _∙_}
 use mathlib.Core.List.{List}
-use Prim.Native.Nat.{ℕ, _+_, _-_, _*_}
+use Prim.Native.Nat.{ℕ, _+_, _-_, _*_, _%_}
 use native.Mathlib.Nat.{add-sub-cancel-left}
 use native.Mathlib.Omega.{arith}
 use lib.ListN.{take, drop}
 use Rattle.compression.specs.Compression.{compressed}
 use Rattle.words.specs.Words.{wordsOf}
-use Rattle.blake.specs.Steps.{laneOf, laned, compressed4}
+use Rattle.chunks.specs.Lanes.{laneOf, laned}
+use Rattle.chunks.specs.Steps.{compressed4}
 use Rattle.words.proofs.Fill.{Fills, fills-none, fills-more, fills-all, fills-less}
-use Rattle.blake.proofs.Laned.{rule, rule-at}
+use Rattle.chunks.proofs.Laned.{rule, rule-at}
 use borrow.Author.Needs.{needs}
-use Rattle.blake.proofs.lane.compress4.Statement.{statement}
-use Rattle.blake.proofs.lane.compress4.Tie as tie
+use Rattle.chunks.proofs.lane.compress4.Statement.{statement}
+use Rattle.chunks.proofs.lane.compress4.Tie as tie
 
 -- what lane j comes to
 abbrev lane-of : List ℕ → List ℕ → ℕ → ℕ → ℕ → ℕ → List ℕ
@@ -41,12 +42,13 @@ loop2-again c =
     let a = c .before .before .before .before .before .before .before .before .before .before .args in
     let k = c .before .before .before .before .before .before .before .before .loop .k in
     let p = 1024 * k + a .at in
+    let r : k % 4 ≡ k = omega arith in
     fills-less (omega arith)
     (fills-more (omega arith)
     (rule-at (lane-of (a .t1) (a .bytes .now) (a .at) (a .n) (a .flags)) k (c .before .loop2 .i) (c .loop2-test .taken)
     (c .before .before .compress-lane .ensures
     ∙ ap₂ (λ (x y : List ℕ). compressed x y (a .n + k) 64 (a .flags))
-    (c .before .before .before .before .before .lane .ensures)
+    (c .before .before .before .before .before .lane .ensures ∙ ap (laneOf (a .t1)) r)
     (c .before .before .before .load .ensures ∙ ap (λ (j : ℕ). wordsOf 16 (take j (drop p (a .bytes .now)))) (add-sub-cancel-left p 64))))
     (c .before .loop2 .inv))
 

@@ -8,16 +8,16 @@ use lib.ListN.{length, take, drop, length-drop}
 use lib.Seq.{take-all}
 use Rattle.compression.specs.Compression.{compressed}
 use Rattle.words.specs.Words.{wordsOf}
-use Rattle.blake.proofs.chunk.Chain.{Chains, chains-none, chains-more, chains-all}
+use Rattle.chunks.proofs.Chain.{Chains, chains-none, chains-more, chains-all}
 use borrow.Author.Needs.{needs}
-use Rattle.blake.proofs.chunk.chunk.Statement.{statement}
-use Rattle.blake.proofs.chunk.chunk.Tie as tie
+use Rattle.chunks.proofs.chunk.Statement.{statement}
+use Rattle.chunks.proofs.chunk.Tie as tie
 
 abbrev Inv-loop : tie.InvT-loop
-Inv-loop flag root n bytes cv₀ start₀ at₀ cv start at = Chains cv₀ flag n bytes cv start at
+Inv-loop flag root n bytes flags cv₀ start₀ at₀ cv start at = Chains cv₀ flag n bytes cv start at
 
 abbrev μ-loop : tie.MeasureT-loop
-μ-loop flag root n bytes cv₀ start₀ at₀ cv start at = length bytes - at
+μ-loop flag root n bytes flags cv₀ start₀ at₀ cv start at = length bytes - at
 
 loop-holds : tie.Need-loop-holds Inv-loop μ-loop
 loop-holds c = chains-none _ _ 0 _ _

@@ -1,2 +1,0 @@
--- Laws that the proofs of `src/chunk.rt` cite.
-mod Chain

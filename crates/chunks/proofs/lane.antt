@@ -1,0 +1,2 @@
+-- Laws that the proofs of `src/lane.rt` cite.
+mod Four
