@@ -8,7 +8,7 @@ from portable.orders import ORDERS
 TOP = Path(__file__).resolve().parent.parent
 # A number that was in the table and is never used again, and the name that it had for C.
 STRUCK, NAME = 15, "KEEPER_TOO_MANY_ITEMS"
-# Where a call, a table or a constant could use it: no line there has it, but for those below and those that say that it is struck.
+# Where a call, a table or a constant could use it: no line there has it, but for those below.
 SCANNED = ("crates/*/src/**/*.rt", "crates/*/specs/**/*.antt", "include/*.h", "hosts/*.[ch]", "man/*", "completion/*", "second/rules/*.py",
            "outside/*.[pc]*")
 # The orders with it, kept to say that every answer by them is the answer without it.
@@ -33,9 +33,15 @@ OTHERS = {
     "DIAGONALS = ((0, 5, 10, 15), (1, 6, 11, 12), (2, 7, 8, 13), (3, 4, 9, 14))",
     'return Case("read_node", (), [data, u32(77), b"\\x1e" * room, u64(15 << 33), u64(17 << 33)])',
 }
+# Lines that say that it is struck.
+SAID = {
+    "/* 15 is struck: it was for a letter of more than 32 items, which no log needs. No call answers it, and it will never mean anything else */",
+    "Number 15 is struck: no call returns it, and it will never mean anything else.",
+    "-- What writer, checker and finder promise together; and number 15, which is struck.",
+}
 # Lines of each kind that use it, which have to be noticed.
 PLANTED = ("return write_refused(15);", "∷ 15 if itemCount n i above 32", "KEEPER_TOO_MANY_ITEMS = 15,", "case 15:", "15 KEEPER_TOO_MANY_ITEMS",
-           "yield 15", "const TOO_MANY: u32 = 15;", "6, 15 (either buffer). */", 'Call(say_find, (0, 1, 15)),')
+           "yield 15", "const TOO_MANY: u32 = 15;", "6, 15 (either buffer). */", "return 0x0F;", "KEEPER_OTHER = 15, /* 15 is struck */")
 
 
 def sections():
@@ -67,7 +73,8 @@ def strangers(numbers):
 
 def used(line):
     """Whether a line uses the struck number."""
-    return bool(re.search(rf"(?<![\w.]){STRUCK}(?!\w)|(?<=\.\.){STRUCK}\b|{NAME}", line)) and line.strip() not in OTHERS and "struck" not in line
+    number = rf"(?:{STRUCK}|0x0*{STRUCK:x})"
+    return bool(re.search(rf"(?i)(?<![\w.]){number}(?!\w)|(?<=\.\.){number}\b|{NAME}", line)) and line.strip() not in OTHERS | SAID
 
 
 def uses():

@@ -1,7 +1,6 @@
 #!/usr/bin/env python3
 """run.py MODULE..: runs the modules of this folder, as many at a time as the machine has processors; a line for each, and what it wrote where it failed.
-Some are run twice, the second time with every log keyed: under sanitizers (CHECKED) where those go on beside (BESIDE), but for what only a disk that
-loses bytes can show.
+Some are run twice, the second time with every log keyed. Under sanitizers that is left to the module that gives the host any bytes for a log.
 
 Exit status: 0 where every test holds, 1 where one does not.
 """
@@ -13,15 +12,8 @@ import time
 from concurrent.futures import ThreadPoolExecutor
 
 
-KEYED_TOO = ("test_append", "test_check", "test_damage", "test_hostile", "test_letters", "test_page", "test_records")
-KEYED_LOSSY = ("test_crashes",)
-
-
-def keyed_too():
-    """The modules that are run a second time here."""
-    if "CHECKED" in os.environ:
-        return KEYED_TOO
-    return KEYED_LOSSY if "BESIDE" in os.environ else KEYED_TOO + KEYED_LOSSY
+KEYED_CHECKED = ("test_hostile",)
+KEYED_TOO = ("test_append", "test_check", "test_crashes", "test_damage", "test_letters", "test_page", "test_records", *KEYED_CHECKED)
 
 
 def run(module, keyed):
@@ -42,7 +34,8 @@ def main():
     begun = time.monotonic()
     with ThreadPoolExecutor(max_workers=min(os.cpu_count() or 1, 4)) as pool:
         results = []
-        runs = [(module, keyed) for module in sys.argv[1:] for keyed in (False, True) if not keyed or module in keyed_too()]
+        with_keys = KEYED_CHECKED if "CHECKED" in os.environ else KEYED_TOO
+        runs = [(module, keyed) for module in sys.argv[1:] for keyed in (False, True) if not keyed or module in with_keys]
         for result in pool.map(lambda each: run(*each), runs):
             results.append(result)
             print(result[3], flush=True)
