@@ -1,6 +1,7 @@
 #!/bin/sh
 # hosts/test.sh [MODULE..]: builds the host and tries it, by the modules of hosts/tests: against the second program, after crashes, on damaged files, in
-# wrong use, as scripts, where it is installed. Beside that once more under the sanitizers of the machine's compiler, where it has them.
+# wrong use, as scripts, where it is installed. Beside that once more under the sanitizers of the machine's compiler, where it has them, and there
+# with every log keyed too.
 # Exit status: 0 where all holds, 1 where something does not, 2 where the host could not be built.
 set -eu
 here=$(readlink -f -- "$0")
@@ -16,6 +17,7 @@ said=$(mktemp) || exit 2
 trap 'rm -f "$said"' EXIT
 running=
 if [ -x "$checked" ]; then
+    export BESIDE=yes
     CHECKED=yes KEEPER=$checked python3 run.py "$@" >"$said" 2>&1 &
     running=$!
 fi

@@ -1,6 +1,7 @@
 #!/usr/bin/env python3
 """run.py MODULE..: runs the modules of this folder, as many at a time as the machine has processors; a line for each, and what it wrote where it failed.
-Some are run twice, the second time with every log keyed. Under sanitizers that is left to the module that gives the host any bytes for a log.
+Some are run twice, the second time with every log keyed. Where sanitizers (CHECKED) go on beside (BESIDE), those about damaged and hostile files are
+left to them, and here are those that hang on the library's digests, and crashes.
 
 Exit status: 0 where every test holds, 1 where one does not.
 """
@@ -12,8 +13,16 @@ import time
 from concurrent.futures import ThreadPoolExecutor
 
 
-KEYED_CHECKED = ("test_hostile",)
-KEYED_TOO = ("test_append", "test_check", "test_crashes", "test_damage", "test_letters", "test_page", "test_records", *KEYED_CHECKED)
+DIGESTS = ("test_append", "test_check", "test_letters", "test_page")
+FILES = ("test_damage", "test_hostile", "test_records")
+CRASHES = ("test_crashes",)
+
+
+def keyed_too():
+    """The modules that are run a second time here."""
+    if "CHECKED" in os.environ:
+        return DIGESTS + FILES
+    return DIGESTS + CRASHES if "BESIDE" in os.environ else DIGESTS + FILES + CRASHES
 
 
 def run(module, keyed):
@@ -34,8 +43,7 @@ def main():
     begun = time.monotonic()
     with ThreadPoolExecutor(max_workers=min(os.cpu_count() or 1, 4)) as pool:
         results = []
-        with_keys = KEYED_CHECKED if "CHECKED" in os.environ else KEYED_TOO
-        runs = [(module, keyed) for module in sys.argv[1:] for keyed in (False, True) if not keyed or module in with_keys]
+        runs = [(module, keyed) for module in sys.argv[1:] for keyed in (False, True) if not keyed or module in keyed_too()]
         for result in pool.map(lambda each: run(*each), runs):
             results.append(result)
             print(result[3], flush=True)
