@@ -10,7 +10,8 @@ from rules.blake3 import PLAIN, Mode, digest, keyed
 from rules.finder import PAIR, find, log_inputs
 from rules.letters import LETTER_HEAD, MOST_ITEMS, WHOLE_LETTER, check_letter, index_in, items_in, letter_bytes, letter_inputs, letter_of, record_in
 from rules.letters import size_in
-from rules.log import NODE, append, folded, node, root, split_root
+from rules.log import NODE, append, folded, node, root
+from rules.plain import plain_root
 from rules.shape import MOST_LEAVES, items_of, leaf_count, leaf_position, nodes_of, size_of, trailing_ones
 from table import check_numbers
 
@@ -65,15 +66,15 @@ def check_marked():
 def check_logs(most, name):
     """Logs of 1 to most records in a mode: counts, sizes and positions by two rules each, and the root without positions."""
     mode = MODES[name]
-    buffer, size, leaves, good = bytearray(NODE * nodes_of(most)), 0, [], 0
+    buffer, size, records, good = bytearray(NODE * nodes_of(most)), 0, [], 0
     for i in range(most):
         answer = append(size, run_record(i, i), buffer, mode)
-        leaves.append(mode(run_record(i, i)))
+        records.append(run_record(i, i))
         good += (
             answer == (0, nodes_of(i + 1), 1 + trailing_ones(i))
             and leaf_count(answer.size) == (0, i + 1)
-            and node(buffer, nodes_of(i)) == leaves[i]
-            and root(answer.size, buffer, mode) == (0, split_root(leaves, mode))
+            and node(buffer, nodes_of(i)) == mode(records[i])
+            and root(answer.size, buffer, mode) == (0, plain_root(records, mode))
         )
         size = answer.size
     print(f"logs, {name}: {good} of {most} keep size, count, leaf position, and the root without positions")

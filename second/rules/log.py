@@ -1,7 +1,7 @@
 """Append and root (RULES 7). The digest is that of a mode, or any other function, so that the rules can be tried with one that has collisions."""
 from collections import namedtuple
 
-from rules.blake3 import PLAIN, left_chunks
+from rules.blake3 import PLAIN
 from rules.shape import MOST_LEAVES, leaf_count, nodes_of, peaks_of
 
 LONGEST_RECORD = 16384
@@ -51,11 +51,3 @@ def root(size, buffer, digest=PLAIN):
     if number != 0:
         return Rooted(number, bytes(NODE))
     return Rooted(0, folded([node(buffer, peak.position) for peak in peaks_of(leaves)], digest))
-
-
-def split_root(digests, digest=PLAIN):
-    """The root without positions (RULES 7.5): more digests than one are split after the largest power of two below their number."""
-    if len(digests) == 1:
-        return digests[0]
-    left = left_chunks(len(digests))
-    return digest(split_root(digests[:left], digest) + split_root(digests[left:], digest))
