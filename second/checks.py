@@ -4,6 +4,7 @@ from collections import Counter
 from pathlib import Path
 
 from expected.given import KEYS, LEAGUES, counting_bytes, flips_of, letter_in, log_of, record_of, run_record
+from grown import grown
 from page import check_page
 from portable.orders import check_orders
 from rules.blake3 import PLAIN, Mode, digest, keyed
@@ -11,7 +12,7 @@ from rules.finder import PAIR, find, log_inputs
 from rules.letters import LETTER_HEAD, MOST_ITEMS, WHOLE_LETTER, check_letter, index_in, items_in, letter_bytes, letter_inputs, letter_of, record_in
 from rules.letters import size_in
 from rules.log import NODE, append, folded, node, root
-from rules.plain import plain_root
+from rules.plain import plain_items, plain_root
 from rules.shape import MOST_LEAVES, items_of, leaf_count, leaf_position, nodes_of, size_of, trailing_ones
 from table import check_numbers
 
@@ -66,17 +67,14 @@ def check_marked():
 def check_logs(most, name):
     """Logs of 1 to most records in a mode: counts, sizes and positions by two rules each, and the root without positions."""
     mode = MODES[name]
-    buffer, size, records, good = bytearray(NODE * nodes_of(most)), 0, [], 0
-    for i in range(most):
-        answer = append(size, run_record(i, i), buffer, mode)
-        records.append(run_record(i, i))
+    records, good = [run_record(i, i) for i in range(most)], 0
+    for i, (answer, buffer) in enumerate(grown(records, mode)):
         good += (
             answer == (0, nodes_of(i + 1), 1 + trailing_ones(i))
             and leaf_count(answer.size) == (0, i + 1)
             and node(buffer, nodes_of(i)) == mode(records[i])
-            and root(answer.size, buffer, mode) == (0, plain_root(records, mode))
+            and root(answer.size, buffer, mode) == (0, plain_root(records[:i + 1], mode))
         )
-        size = answer.size
     print(f"logs, {name}: {good} of {most} keep size, count, leaf position, and the root without positions")
     return good == most
 
@@ -89,21 +87,22 @@ def marked_letters():
 
 
 def check_letters(most, name):
-    """In a mode every letter of logs of 1 to most records is accepted, gives its record and is found the same; no letter with a bit flipped is."""
+    """In a mode every letter of logs of 1 to most records is accepted, gives its record, has the plain rule's items and is found the same; no letter
+    with a bit flipped is."""
     mode = MODES[name]
-    good, buffer, size = 0, bytearray(NODE * nodes_of(most)), 0
-    for leaves in range(1, most + 1):
-        size = append(size, run_record(leaves - 1, leaves - 1), buffer, mode).size
-        for index in range(leaves):
-            record = run_record(index, index)
+    good, records = 0, [run_record(index, index) for index in range(most)]
+    for leaves, (answer, buffer) in enumerate(grown(records, mode), 1):
+        size = answer.size
+        for index, record in enumerate(records[:leaves]):
             letter = letter_of(size, index, record, buffer, mode)
             good += (
                 check_letter(size, root(size, buffer, mode).root, letter, mode) == (0, index, LETTER_HEAD, index)
                 and record_in(letter) == record
+                and items_in(letter) == plain_items(records[:leaves], index, mode)
                 and find(size, record, buffer, letter, bytearray(PAIR), bytearray(PAIR), mode) == (0, "same")
             )
     total = most * (most + 1) // 2
-    print(f"letters, {name}: {good} of {total} are accepted, give their record and are found the same")
+    print(f"letters, {name}: {good} of {total} are accepted, give their record, have the plain rule's items and are found the same")
     size, top, letter = letter_in(7, 2, mode)
     flipped = [check_letter(size, top, other, mode).number for other in flips_of(letter)]
     print(f"letters, {name}: of {len(flipped)} with one bit flipped {flipped.count(0)} are accepted")
@@ -193,11 +192,10 @@ def found_rightly(kind, size, record, buffer, letter):
 
 def check_finder(most):
     """With the toy digest: every letter of small logs, and for each part of it an accepted letter that differs there."""
-    counts, wrong, buffer, size = Counter(), 0, bytearray(NODE * nodes_of(most)), 0
-    for leaves in range(1, most + 1):
-        size = append(size, run_record(leaves - 1, 5), buffer, toy_digest).size
-        for index in range(leaves):
-            record = run_record(index, 5)
+    counts, wrong, records = Counter(), 0, [run_record(index, 5) for index in range(most)]
+    for leaves, (answer, buffer) in enumerate(grown(records, toy_digest), 1):
+        size = answer.size
+        for index, record in enumerate(records[:leaves]):
             letter = letter_of(size, index, record, buffer, toy_digest)
             for kind, shown in [("same", letter), *other_letters(size, root(size, buffer, toy_digest).root, letter)]:
                 counts[kind] += 1

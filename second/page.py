@@ -3,6 +3,7 @@ import re
 from pathlib import Path
 
 from expected.given import KEYS, LEAGUES, counting_bytes
+from grown import grown
 from portable.orders import FROM_7, ORDERS
 from rules.blake3 import KEY, PLAIN, Mode, digest, keyed, words_of
 from rules.letters import PANEL_HEAD, PANEL_MOST, WHOLE_LETTER, check_letter, keyed_panel, letter_bytes, letter_of, panel
@@ -22,10 +23,8 @@ ITEMS = (("", 1, 0), ("", 2, 1), ("", 3, 2), ("M14", 5, 2), ("M15", 7, 4), ("M16
 
 def small_log(mode=PLAIN):
     """The log of section 7.6 in a mode: its nodes, and the answers of its appends."""
-    nodes, answers = bytearray(NODE * nodes_of(len(RECORDS))), [(0, 0, 0)]
-    for record in RECORDS:
-        answers.append(append(answers[-1][1], record, nodes, mode))
-    return bytes(nodes), answers[1:]
+    made = list(grown(RECORDS, mode))
+    return bytes(made[-1][1]), [answer for answer, _ in made]
 
 
 def shown_letter(mode=PLAIN):

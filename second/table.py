@@ -37,7 +37,7 @@ OTHERS = {
 SAID = {
     "/* 15 is struck: it was for a letter of more than 32 items, which no log needs. No call answers it, and it will never mean anything else */",
     "Number 15 is struck: no call returns it, and it will never mean anything else.",
-    "-- What writer, checker and finder promise together; and number 15, which is struck.",
+    "-- What writer, checker and finder promise together, over a log's nodes and by the plain rule; and number 15, which is struck.",
 }
 # Lines of each kind that use it, which have to be noticed.
 PLANTED = ("return write_refused(15);", "∷ 15 if itemCount n i above 32", "KEEPER_TOO_MANY_ITEMS = 15,", "case 15:", "15 KEEPER_TOO_MANY_ITEMS",

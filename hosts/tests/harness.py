@@ -19,6 +19,7 @@ from pathlib import Path
 TOP = Path(__file__).resolve().parent.parent.parent
 sys.path.insert(0, str(TOP / "second"))
 from expected.given import run_record  # noqa: E402
+from grown import log_of  # noqa: E402
 from rules import letters, log, shape  # noqa: E402, F401
 from rules.blake3 import PLAIN, digest, keyed  # noqa: E402
 from rules.log import LONGEST_RECORD, NODE  # noqa: E402, F401
@@ -66,10 +67,8 @@ def by(key):
 @functools.lru_cache(maxsize=None)
 def said_of_all(records, key):
     """What the second program says of a log of these records: size, root, nodes."""
-    nodes, size = bytearray(NODE * nodes_of(len(records))), 0
-    for record in records:
-        size = log.append(size, record, nodes, **by(key)).size
-    return size, log.root(size, nodes, **by(key)).root if records else b"", bytes(nodes)
+    size, nodes = log_of(records, **by(key))
+    return size, log.root(size, nodes, **by(key)).root if records else b"", nodes
 
 
 def said_of(records, key=KEY):

@@ -5,6 +5,7 @@ import struct
 
 from calls import PLAIN, mode_bytes
 from expected.given import KEYS
+from grown import grown
 from rules import blake3, letters, log
 from rules.log import LONGEST_RECORD, NODE
 from rules.shape import nodes_of
@@ -34,9 +35,7 @@ class World:
         self.records = [chance.randbytes(LENGTHS[i % len(LENGTHS)] if i % 5 == 0 else chance.randrange(70)) for i in range(LEAVES)]
         self.records[77] = chance.randbytes(LONGEST_RECORD)
         self.longer = chance.randbytes(LONGEST_RECORD + 1)
-        self.all_nodes, size = bytearray(NODE * nodes_of(LEAVES)), 0
-        for record in self.records:
-            size = log.append(size, record, self.all_nodes, self.digest).size
+        *_, (_, self.all_nodes) = grown(self.records, self.digest)
 
     def nodes(self, leaves):
         """The nodes of the log of the first so many records."""

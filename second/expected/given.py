@@ -1,8 +1,8 @@
 """What the programs are given: bytes, keys, records, logs, letters; and how numbers are printed."""
+from grown import log_of as log_of_records
 from rules.blake3 import PLAIN, keyed
 from rules.letters import letter_of
-from rules.log import NODE, append, root
-from rules.shape import nodes_of
+from rules.log import root
 
 # The lengths of the records, over and over; and the bytes that a letter with a record of at most 200 is given.
 LENGTHS = (0, 1, 31, 200, 16384)
@@ -29,10 +29,7 @@ def record_of(number):
 
 def log_of(count, digest=PLAIN):
     """A log of so many records: its size and nodes."""
-    buffer, size = bytearray(NODE * nodes_of(count)), 0
-    for number in range(count):
-        size = append(size, record_of(number), buffer, digest).size
-    return size, bytes(buffer)
+    return log_of_records([record_of(number) for number in range(count)], digest)
 
 
 def letter_in(leaves, index, digest=PLAIN):

@@ -2,10 +2,10 @@
 from collections import Counter
 
 from expected.given import LETTER_ROOM, flips_of, letter_in, record_of, log_of, numbers_line, run_record
+from grown import grown
 from rules.blake3 import digest
 from rules.letters import LETTER_HEAD, WHOLE_LETTER, check_letter, letter_bytes, letter_of, size_in, write_letter
-from rules.log import NODE, append, node, root
-from rules.shape import nodes_of
+from rules.log import NODE, node, root
 
 LEAVES = 20
 # Letters written of a log of seven records: the size, the index, the record's number and length, how much of the nodes and of the output is lent.
@@ -23,10 +23,8 @@ CHECKS = (
 
 def lines_of_letters(most):
     """Every letter of logs of 1 to most records: written, checked; 0 where its record is the log's, 0 where no byte behind it has changed."""
-    buffer, size = bytearray(NODE * nodes_of(most)), 0
-    for leaves in range(1, most + 1):
-        size = append(size, record_of(leaves - 1), buffer).size
-        top = root(size, buffer).root
+    for leaves, (answer, buffer) in enumerate(grown([record_of(number) for number in range(most)]), 1):
+        size, top = answer.size, root(answer.size, buffer).root
         for index in range(leaves):
             record = record_of(index)
             letter = letter_of(size, index, record, buffer)

@@ -1,5 +1,6 @@
 """What log_run must write."""
 from expected.given import run_record
+from grown import grown
 from rules.blake3 import digest
 from rules.log import NODE, append, root
 
@@ -25,7 +26,7 @@ def lent_append(size, record, buffer, lent):
     front = buffer[:lent]
     answer = append(size, record, front)
     buffer[:lent] = front
-    return "{} {} {}".format(*answer), answer.size
+    return "{} {} {}".format(*answer)
 
 
 def state_lines(size, buffer):
@@ -41,11 +42,10 @@ def state_lines(size, buffer):
 
 def run_log(buffer):
     """Forty records of mixed lengths: the lines of each append, and the size at the end."""
-    lines, size = [], 0
-    for i in range(40):
-        length = LENGTHS[i % len(LENGTHS)]
-        said, size = lent_append(size, run_record(i, length), buffer, len(buffer))
-        lines += [f"append {i}, record of length {length}: {said}", *state_lines(size, buffer)]
+    lines, size, records = [], 0, [run_record(i, LENGTHS[i % len(LENGTHS)]) for i in range(40)]
+    for i, (answer, _) in enumerate(grown(records, buffer=buffer)):
+        size = answer.size
+        lines += ["append {}, record of length {}: {} {} {}".format(i, len(records[i]), *answer), *state_lines(size, buffer)]
     return lines, size
 
 
@@ -57,7 +57,7 @@ def expect_log_run():
     for size, length, lent in APPENDS:
         lines.append(f"size {size}, record of length {length}, buffer of length {lent}:")
         lines.append(f"  before {digest(bytes(buffer)).hex()}")
-        said, _ = lent_append(size, run_record(40, length), buffer, lent)
+        said = lent_append(size, run_record(40, length), buffer, lent)
         lines += [f"  append {said}", f"  after {digest(bytes(buffer)).hex()}"]
     for size, lent in ROOTS:
         number, top = root(size, buffer[:lent])

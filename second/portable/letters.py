@@ -1,7 +1,8 @@
 """The vectors of letters: written, true and refused; checked, true, damaged and forged."""
 from expected.panel import longest_letter
+from grown import log_of
 from portable.form import case, counted, logged
-from portable.logs import log_of, small_log
+from portable.logs import small_log
 from rules.blake3 import PLAIN, digest
 from rules.letters import LETTER_HEAD, WHOLE_LETTER, check_letter, items_in, letter_bytes, letter_of, record_in, worked_root, write_letter
 from rules.log import LONGEST_RECORD, NODE, node, root

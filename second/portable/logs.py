@@ -1,18 +1,11 @@
 """The vectors of logs: whole ones, and appends and roots at the edges of their orders."""
+from grown import grown, log_of
 from portable.form import case, counted, logged
 from rules.blake3 import PLAIN
 from rules.log import LONGEST_RECORD, NODE, append, root
 from rules.shape import MOST_LEAVES, nodes_of
 
 LEAVES = 16
-
-
-def log_of(records, mode=PLAIN):
-    """A log of these records in a mode: its size and nodes."""
-    nodes, size = bytearray(NODE * nodes_of(len(records))), 0
-    for record in records:
-        size = append(size, record, nodes, mode).size
-    return size, bytes(nodes)
 
 
 def small_log(leaves, mode=PLAIN):
@@ -22,13 +15,12 @@ def small_log(leaves, mode=PLAIN):
 
 def whole_case(name, records, mode=PLAIN):
     """Records appended one by one to an empty log: after each the size, the hash count and the root; at the end the nodes."""
-    nodes, sizes, counts, roots = bytearray(NODE * nodes_of(len(records))), [0], [], []
-    for record in records:
-        answer = append(sizes[-1], record, nodes, mode)
+    nodes, sizes, counts, roots = b"", [], [], []
+    for answer, nodes in grown(records, mode):
         sizes.append(answer.size)
         counts.append(answer.hashes)
         roots.append(root(answer.size, nodes, mode).root)
-    return case("log", name, {"records": list(records)}, 0, mode, sizes=sizes[1:], hashes_each=counts, roots=roots, nodes=nodes)
+    return case("log", name, {"records": list(records)}, 0, mode, sizes=sizes, hashes_each=counts, roots=roots, nodes=nodes)
 
 
 def append_case(name, size, record, nodes, mode=PLAIN):

@@ -2,6 +2,8 @@
 import struct
 from collections import namedtuple
 
+from rules.plain import largest_power
+
 STARTING_WORDS = (
     0x6A09E667, 0xBB67AE85, 0x3C6EF372, 0xA54FF53A,
     0x510E527F, 0x9B05688C, 0x1F83D9AB, 0x5BE0CD19,
@@ -116,20 +118,12 @@ def parent_words(mode, left, right, root):
     return compress(mode.starting, bytes_of(left + right), 0, BLOCK, mode.flag | PARENT | root)
 
 
-def left_chunks(count):
-    """How many of count > 1 chunks stand on the left side: the largest power of two below count."""
-    power = 1
-    while 2 * power < count:
-        power *= 2
-    return power
-
-
 def tree_words(mode, first, data, root):
     """The chaining words of the tree over the data, whose first chunk has the number first."""
     count = -(-len(data) // CHUNK)
     if count <= 1:
         return chunk_words(mode, first, data, root)
-    chunks = left_chunks(count)
+    chunks = largest_power(count)
     left = tree_words(mode, first, data[:chunks * CHUNK], 0)
     right = tree_words(mode, first + chunks, data[chunks * CHUNK:], 0)
     return parent_words(mode, left, right, root)

@@ -12,13 +12,14 @@ use Rattle.letter.proofs.Fits.{Fits}
 use Rattle.letter_writer.specs.Outcome.{writeOrder, writeOver, writeOutcome}
 use Rattle.letter_checker.proofs.Accepted.{accepted-of, accepts}
 use Rattle.letter_checker.specs.Outcome.{CheckOutcome, recordBy}
-use Rattle.letter_promise.specs.Promise.{logSize, recordAt, ours, Accepted, EveryLetterAccepted}
+use Rattle.letter_promise.specs.Terms.{logSize, recordAt, Accepted}
+use Rattle.letter_promise.specs.Promise.{ours, EveryLetterAccepted}
 use Rattle.letter_promise.proofs.Kept.{Kept, logRoot, counts, root-length, record-short, not-foreign}
 use Rattle.letter_promise.proofs.Ours.{ours-size, ours-index, ours-stated, ours-record, ours-exact, ours-root}
 
 module _ {digest : List ℕ → List ℕ} {rs : List (List ℕ)} {bs : List ℕ} (k : Kept digest rs bs) where
   -- an accepted letter passes, with the index and the record that it names
-  pub accepted-fits : {letter : List ℕ} {i : ℕ} {r : List ℕ} → Accepted digest rs (logRoot k) bs letter i r
+  pub accepted-fits : {letter : List ℕ} {i : ℕ} {r : List ℕ} → Accepted digest (logSize rs) (logRoot k) letter i r
       → Fits digest (logSize rs) (length rs) (logRoot k) letter × (i ≡ indexIn letter) × (r ≡ recordIn letter)
   unfolding recordBy recordIn
   accepted-fits {letter} {i} {r} a =
@@ -30,7 +31,7 @@ module _ {digest : List ℕ → List ℕ} {rs : List (List ℕ)} {bs : List ℕ}
 
   -- a letter that passes is accepted
   fits-accepted : {letter : List ℕ} → Fits digest (logSize rs) (length rs) (logRoot k) letter
-      → Accepted digest rs (logRoot k) bs letter (indexIn letter) (recordIn letter)
+      → Accepted digest (logSize rs) (logRoot k) letter (indexIn letter) (recordIn letter)
   unfolding recordBy recordIn
   fits-accepted {letter} f =
       let c = counts k in

@@ -27,8 +27,9 @@ use Rattle.letter_writer.specs.Outcome.{ourLetter}
 use Rattle.difference.specs.Outcome.{findDone, roomOrder}
 use Rattle.letter_finder.specs.Outcome.{firstDifference, ownOrder, findOrder, findOver, findOutcome}
 use Rattle.letter_finder.proofs.Stages.{find-pass, find-passed, find-same}
-use Rattle.letter_promise.specs.Promise.{logSize, recordAt, ours}
-use Rattle.letter_promise.specs.Promise.{Ends, ends-same, ends-records, ends-pair, EveryAcceptedEnds, EveryOursSame, EverySameOurs}
+use Rattle.letter_promise.specs.Terms.{logSize, recordAt, Ends, ends-same, ends-records, ends-pair}
+use Rattle.letter_promise.specs.Promise.{ours}
+use Rattle.letter_promise.specs.Promise.{EveryAcceptedEnds, EveryOursSame, EverySameOurs}
 use Rattle.letter_promise.proofs.Kept.{Kept, logRoot, ownItems, counts, log-32, own-root, record-short, leads, not-foreign, not-broken, shown}
 use Rattle.letter_promise.proofs.Ours.{letter-own, ours-index, ours-record, ours-tree}
 use Rattle.letter_promise.proofs.Checked.{accepted-fits, ours-fits}
@@ -104,7 +105,8 @@ module _ {digest : List ℕ → List ℕ} {rs : List (List ℕ)} {bs : List ℕ}
         ∙ sym (letter-own k i (f .inside) (recordIn letter))
 
     ends : (first second : List ℕ) → Bytes letter → (d : Diff) → ShownAt digest (tree (map digest rs)) (letterTree digest n letter) Agree d
-        → Ends digest rs (logRoot k) bs letter i (recordIn letter) first second (findDone d (differ (recordAt rs i) (recordIn letter)) first second)
+        → Ends digest (ours digest rs bs i) (recordAt rs i) (tree (map digest rs)) (letterTree digest n letter) letter (recordIn letter) first second
+        (findDone d (differ (recordAt rs i) (recordIn letter)) first second)
     ends first second b agree s = elim (decided (recordAt rs i) (recordIn letter)) [
       | yes q ↦ rw (differ-same _ _ q) (ends-same (is-ours b (s .1) ∙ ap (λ (r : List ℕ). ourLetter digest (logSize rs) i r (nodeIn bs)) (sym q)))
       | no q ↦ rw (differ-other _ _ q) (ends-records (λ z. q (sym z)) (sym (s .0)))

@@ -20,18 +20,25 @@ use Rattle.shape.proofs.Ways.{way-leads}
 use Rattle.shape.proofs.Leaves.{leaf-read, leaf-digest}
 use Rattle.shape.proofs.Reading.{root-read}
 use Rattle.shape.proofs.Own.{seen-own, broken-own}
-use Rattle.nodes.specs.Nodes.{nodeIn}
+use Rattle.nodes.specs.Nodes.{nodeIn, Begins}
 use Rattle.shape.proofs.Counting.{Counts, counts-size}
+use Rattle.log.proofs.Grown.{begins-hold, begins-long}
 use Rattle.log.proofs.Appends.{short-at}
 use Rattle.letter.specs.Items.{foreign}
 use Rattle.letter_finder.specs.Outcome.{ownRoot}
-use Rattle.letter_promise.specs.Promise.{Log, recordAt}
+use Rattle.letter_promise.specs.Terms.{Log, recordAt}
 
 pub record Kept (digest : List ℕ → List ℕ) (rs : List (List ℕ)) (bs : List ℕ) : Type 0 where
   pub digest-32 : (x : List ℕ) → length (digest x) ≡ 32
   pub log : Log rs
   pub holds : Holds (nodeIn bs) 0 (nodes digest (map digest rs))
   pub room : 32 * sizeOf (length rs) ≤ length bs
+
+-- a buffer that begins with a log's nodes holds each at its place
+pub kept : (digest : List ℕ → List ℕ) → ((x : List ℕ) → length (digest x) ≡ 32)
+    → (rs : List (List ℕ)) (bs : List ℕ) → Log rs → Begins digest bs rs → Kept digest rs bs
+kept digest digest-32 rs bs g b =
+    record { digest-32 = digest-32; log = g; holds = begins-hold digest digest-32 rs bs b; room = begins-long digest digest-32 rs bs b }
 
 module _ {digest : List ℕ → List ℕ} {rs : List (List ℕ)} {bs : List ℕ} (k : Kept digest rs bs) where
   -- the log's root, and the items of its tree on the way to leaf i

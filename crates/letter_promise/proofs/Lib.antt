@@ -1,8 +1,9 @@
--- The promise, proved; and that number 15 is struck.
+-- The promise, proved, over a log's nodes and by the plain rule; and that number 15 is struck.
 mod Kept
 mod Ours
 mod Checked
 mod Found
 mod Named
 pub mod Promise
+pub mod Plain
 pub mod Struck

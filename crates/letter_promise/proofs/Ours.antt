@@ -16,7 +16,8 @@ use Rattle.letter.specs.Checking.{exactLength}
 use Rattle.letter.proofs.ItemsOf.{items-of-log}
 use Rattle.letter.proofs.Spelling.{letter-length, size-read, index-read, stated-read, record-read, items-read-back}
 use Rattle.letter_writer.specs.Outcome.{ourLetter}
-use Rattle.letter_promise.specs.Promise.{logSize, recordAt, ours}
+use Rattle.letter_promise.specs.Terms.{logSize, recordAt}
+use Rattle.letter_promise.specs.Promise.{ours}
 use Rattle.letter_promise.proofs.Kept.{Kept, logRoot, ownItems, same-number, counts, size-small, log-32, record-short, leads}
 
 module _ {digest : List ℕ → List ℕ} {rs : List (List ℕ)} {bs : List ℕ} (k : Kept digest rs bs) (i : ℕ) (p : i < length rs) where

@@ -7,17 +7,18 @@ use Rattle.digest.specs.Digest.{digestIn, digest-length}
 use Rattle.order.specs.Order.{_under_}
 use Rattle.shape.specs.Tree.{root}
 use Rattle.shape.specs.Folded.{tree}
-use Rattle.nodes.specs.Nodes.{nodeIn, Begins}
+use Rattle.nodes.specs.Nodes.{nodeIn}
 use Rattle.nodes.proofs.Joined.{node-length}
 use Rattle.log.specs.Outcome.{RootOutcome, rootOutcome}
-use Rattle.log.proofs.Grown.{begins-hold, begins-long, root-of-log}
+use Rattle.log.proofs.Grown.{root-of-log}
 use Rattle.log.proofs.Appends.{run-sound, run-all}
 use Rattle.log.proofs.Hashed.{built-hashed}
 use Rattle.letter_finder.specs.Outcome.{findOutcome}
-use Rattle.letter_promise.specs.Promise.{Log, logSize, recordAt, EveryLetterAccepted, EveryAcceptedEnds, EveryOursSame, EverySameOurs}
+use Rattle.letter_promise.specs.Terms.{logSize, recordAt}
+use Rattle.letter_promise.specs.Promise.{EveryLetterAccepted, EveryAcceptedEnds, EveryOursSame, EverySameOurs}
 use Rattle.letter_promise.specs.Promise.{OfEveryLog, LetterAccepted, AcceptedIsOurs, OursIsSame, SameIsOurs, FoundNamed}
 use Rattle.letter_promise.specs.Promise.{OneLetter, AppendsBuild, PlacesBuilt}
-use Rattle.letter_promise.proofs.Kept.{Kept}
+use Rattle.letter_promise.proofs.Kept.{Kept, kept}
 use Rattle.letter_promise.proofs.Ours.{letter-own}
 use Rattle.letter_promise.proofs.Checked.{letters-accepted}
 use Rattle.letter_promise.proofs.Named.{named-found}
@@ -26,18 +27,13 @@ use Rattle.letter_promise.proofs.Found.{accepted-ends, ours-same, same-
 -- ---- over any digest function
 
 module _ (digest : List ℕ → List ℕ) (digest-32 : (x : List ℕ) → length (digest x) ≡ 32) where
-  -- a buffer that begins with a log's nodes holds each at its place
-  kept : (rs : List (List ℕ)) (bs : List ℕ) → Log rs → Begins digest bs rs → Kept digest rs bs
-  kept rs bs g b =
-      record { digest-32 = digest-32; log = g; holds = begins-hold digest digest-32 rs bs b; room = begins-long digest digest-32 rs bs b }
-
-  -- and the root that is answered is the tree's
+  -- the root that is answered is the tree's
   of-every-log : (Says : List (List ℕ) → List ℕ → List ℕ → Type 0)
       → ((rs : List (List ℕ)) (bs : List ℕ) → Kept digest rs bs → Says rs (root digest (tree (map digest rs))) bs) → OfEveryLog digest Says
   of-every-log Says law rs g bs b =
       let e : rootOutcome digest (logSize rs) bs .root ≡ root digest (tree (map digest rs)) =
       ap (λ (o : RootOutcome). o .root) (root-of-log digest digest-32 rs bs (g .some) (g .few) b) in
-      subst (λ (d : List ℕ). Says rs d bs) (sym e) (law rs bs (kept rs bs g b))
+      subst (λ (d : List ℕ). Says rs d bs) (sym e) (law rs bs (kept digest digest-32 rs bs g b))
 
   -- the letters that we write are accepted
   pub letter-accepted-over : LetterAccepted digest
@@ -62,7 +58,8 @@ module _ (digest : List ℕ → List ℕ) (digest-32 : (x : List ℕ) → length
 
   -- a log has one letter for an index, whatever stands in a buffer beyond its nodes
   pub one-letter-over : OneLetter digest
-  one-letter-over rs bs cs g b c i p = letter-own (kept rs bs g b) i p (recordAt rs i) ∙ sym (letter-own (kept rs cs g c) i p (recordAt rs i))
+  one-letter-over rs bs cs g b c i p =
+      letter-own (kept digest digest-32 rs bs g b) i p (recordAt rs i) ∙ sym (letter-own (kept digest digest-32 rs cs g c) i p (recordAt rs i))
 
   -- any run of appends to an empty log, refused ones among them, that took a record leaves such a log, its size, and such a buffer
   pub appends-build-over : AppendsBuild digest

@@ -1,45 +1,30 @@
 -- What writer, checker and finder promise together, of every log: the letters that we write are accepted; and bytes that are accepted are our
 -- letter, or the finder gives two different strings with one digest, one hashed in building the log or its root, the other in checking those bytes,
 -- at the same place in the tree.
--- The statements stand at the end, above them what they say, all over any digest function. They hold of every one whose digests have 32 bytes; the
+-- The statements stand at the end, above them and in `Terms` what they say, all over any digest function. They hold of every one whose digests have 32 bytes; the
 -- theorems are these for Blake3. They speak of the outcomes that the contracts of the public calls cite, so they hold of the code.
 -- Of nodes that are not the log's, or another record than its own, one thing is claimed: what the finder names does collide (`found-named`).
 use mathlib.Core.Logic.{_≢_}
 use mathlib.Core.Path.{_≡_}
-use mathlib.Core.List.{List, [], _++_, map, Perm}
+use mathlib.Core.List.{List, _++_, map, Perm}
 use Prim.Native.Nat.{ℕ, _*_, _≤_, _<_}
-use lib.ListN.{length, getD, drop}
-use Rattle.wire.specs.Limits.{mostLeaves}
+use lib.ListN.{length, drop}
 use Rattle.wire.specs.Numbers.{Bytes}
 use Rattle.wire.specs.Writers.{writeDone}
-use Rattle.shape.specs.Sizes.{sizeOf}
-use Rattle.shape.specs.Tree.{places, hashedAt, OnePlace}
+use Rattle.shape.specs.Tree.{places, hashedAt}
 use Rattle.shape.specs.Difference.{Collision}
 use Rattle.shape.specs.Folded.{tree}
 use Rattle.nodes.specs.Nodes.{nodeIn, Begins}
-use Rattle.log.specs.Appends.{Short, run, empty}
+use Rattle.log.specs.Appends.{run, empty}
 use Rattle.log.specs.Outcome.{rootOutcome}
 use Rattle.log.specs.Hashed.{builtHashed}
 use Rattle.letter.specs.Bytes.{indexIn, recordIn}
 use Rattle.letter.specs.Items.{letterTree}
 use Rattle.letter_writer.specs.Outcome.{ourLetter, writeOutcome}
-use Rattle.letter_checker.specs.Outcome.{checkOutcome, recordBy}
 use Rattle.difference.specs.declared.Finding.the-variants.{Same, Records, Pair}
 use Rattle.difference.specs.Outcome.{FindOutcome, findRefused}
 use Rattle.letter_finder.specs.Outcome.{findOutcome}
-
--- a log: any list of 1 to 2^32 records, none above 16,384 bytes
-pub record Log (rs : List (List ℕ)) : Type 0 where
-  pub some : 1 ≤ length rs
-  pub few : length rs ≤ mostLeaves
-  pub short : Short rs
-
--- its size, and its record at an index
-abbrev pub logSize : List (List ℕ) → ℕ
-logSize rs = sizeOf (length rs)
-
-abbrev pub recordAt : List (List ℕ) → ℕ → List ℕ
-recordAt rs i = getD rs i []
+use Rattle.letter_promise.specs.Terms.{Log, logSize, recordAt, Accepted, Ends}
 
 -- our letter for index i, with the log's nodes in the buffer bs
 abbrev pub ours : (List ℕ → List ℕ) → List (List ℕ) → List ℕ → ℕ → List ℕ
@@ -47,41 +32,24 @@ ours digest rs bs i = ourLetter digest (logSize rs) i (recordAt rs i) (nodeIn bs
 
 -- a log, its root, and a buffer with its nodes
 module _ (digest : List ℕ → List ℕ) (rs : List (List ℕ)) (root bs : List ℕ) where
-  -- the checker's outcome on these bytes is 0, the index i and the record r
-  pub record Accepted (letter : List ℕ) (i : ℕ) (r : List ℕ) : Type 0 where
-    pub number : checkOutcome digest (logSize rs) root letter .number ≡ 0
-    pub index : checkOutcome digest (logSize rs) root letter .index ≡ i
-    pub rec : recordBy (checkOutcome digest (logSize rs) root letter) letter ≡ r
-
   -- the writer's outcome on the log's own record is our letter, and the checker's outcome on it is 0, the index and that record
   pub record WrittenAndAccepted (i : ℕ) (out : List ℕ) : Type 0 where
     pub written : writeOutcome digest (logSize rs) i (recordAt rs i) bs out ≡ writeDone (ours digest rs bs i) out
-    pub accepted : Accepted (ours digest rs bs i) i (recordAt rs i)
-
-  -- the finder's outcome, by its answer, for bytes that were accepted with the index i and the record r
-  pub data Ends (letter : List ℕ) (i : ℕ) (r first second : List ℕ) : FindOutcome → Type 0 where
-    -- the bytes are our letter for i; no byte of the buffers changed
-    ends-same : letter ≡ ours digest rs bs i
-        → Ends letter i r first second (record { number = 0; finding = Same; first = first; second = second })
-    -- r and the log's record differ and have one digest; no byte of the buffers changed
-    ends-records : r ≢ recordAt rs i → digest r ≡ digest (recordAt rs i)
-        → Ends letter i r first second (record { number = 0; finding = Records; first = first; second = second })
-    -- the first 64 bytes of the two buffers are a and b, which differ and have one digest; for one place in the folded tree a is what building the
-    -- log or its root hashes there (`places-built`), and b what checking those bytes hashes there; no other byte changed
-    ends-pair : (a b : List ℕ) → Collision digest 64 a b → OnePlace digest (tree (map digest rs)) (letterTree digest (length rs) letter) a b
-        → Ends letter i r first second (record { number = 0; finding = Pair; first = a ++ drop 64 first; second = b ++ drop 64 second })
+    pub accepted : Accepted digest (logSize rs) root (ours digest rs bs i) i (recordAt rs i)
 
   -- for every index, with room in the output
   abbrev pub EveryLetterAccepted : Type 0
   EveryLetterAccepted = (i : ℕ) → i < length rs → (out : List ℕ) → length (ours digest rs bs i) ≤ length out → WrittenAndAccepted i out
 
   -- for every list of bytes that is accepted with index i: the finder's own outcome on two buffers of at least 64 bytes, the nodes, the log's
-  -- record at i and those bytes
+  -- record at i and those bytes. The log's tree is the folded one, what is hashed there building the log or its root hashes (`places-built`), and
+  -- what is hashed in the other checking those bytes does
   abbrev pub EveryAcceptedEnds : Type 0
   EveryAcceptedEnds =
-      (letter : List ℕ) → Bytes letter → (i : ℕ) (r : List ℕ) → Accepted letter i r
+      (letter : List ℕ) → Bytes letter → (i : ℕ) (r : List ℕ) → Accepted digest (logSize rs) root letter i r
       → (first second : List ℕ) → 64 ≤ length first → 64 ≤ length second
-      → Ends letter i r first second (findOutcome digest (logSize rs) bs (recordAt rs i) letter first second)
+      → Ends digest (ours digest rs bs i) (recordAt rs i) (tree (map digest rs)) (letterTree digest (length rs) letter) letter r first second
+      (findOutcome digest (logSize rs) bs (recordAt rs i) letter first second)
 
   -- the other direction: where the bytes are our letter, the finder says "same" and changes nothing ..
   abbrev pub EveryOursSame : Type 0

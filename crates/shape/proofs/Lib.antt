@@ -13,7 +13,6 @@ pub mod Bind
 pub mod Prune
 pub mod Letters
 pub mod Trees
-pub mod Plain
 pub mod Ways
 pub mod Nodes
 mod Held

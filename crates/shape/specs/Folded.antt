@@ -1,7 +1,7 @@
--- The folded tree of a list of digests, over any digest function, and the plain rule that its root keeps.
+-- The folded tree of a list of digests.
 use mathlib.Core.Bool.{true, false}
-use mathlib.Core.List.{List, [], _∷_, _++_}
-use Prim.Native.Nat.{ℕ, zero, suc, _^_, _≤_, _<_}
+use mathlib.Core.List.{List, []}
+use Prim.Native.Nat.{ℕ, zero, suc, _^_}
 use lib.ListN.{length, getD, take, drop}
 use lib.Dec.{leb}
 use Rattle.shape.specs.Sizes.{heightOf}
@@ -17,10 +17,3 @@ treeIn (suc h) ds =
 -- the folded tree: more digests than one are split after the largest power of two below their number (`tree-split`)
 unfoldable pub tree : List (List ℕ) → Tree
 tree ds = treeIn (heightOf (length ds)) ds
-
-module _ (digest : List ℕ → List ℕ) where
-  -- the plain rule: one digest is the root; more are split after 2^k, the largest power of two below their number, and the two roots hashed
-  pub data Plain : List (List ℕ) → List ℕ → Type 0 where
-    one : {d : List ℕ} → Plain (d ∷ []) d
-    split : (k : ℕ) (ds : List (List ℕ)) {a b : List ℕ} → 2 ^ k < length ds → length ds ≤ 2 ^ suc k
-        → Plain (take (2 ^ k) ds) a → Plain (drop (2 ^ k) ds) b → Plain ds (digest (a ++ b))

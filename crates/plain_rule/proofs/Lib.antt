@@ -1,0 +1,4 @@
+-- The plain rule gives one root, which is the folded tree's and what the root call answers.
+pub mod Splits
+pub mod Tree
+pub mod Root

@@ -1,0 +1,48 @@
+-- Every list of records but the empty one is split by the plain rule, and where.
+use mathlib.Core.Path.{_≡_, refl}
+use mathlib.Core.Logic.{by-cases}
+use mathlib.Core.List.{List, [], _∷_}
+use Prim.Native.Nat.{ℕ, zero, suc, _-_, _^_, _≤_, _<_}
+use native.Mathlib.Decide.{decLe}
+use native.Mathlib.Omega.{arith}
+use lib.ListN.{length, length-drop, take, drop}
+use lib.Seq.{length-take-le}
+use lib.Pow.{pow-pos, pow-mono}
+use Rattle.shape.proofs.Heights.{height-holds}
+use Rattle.plain_rule.specs.Rule.{LargestPower, Split, one, more, SplitSome}
+
+-- ---- the largest power of two below a number: it is below, and the next one is not
+
+pub largest-next : {m n : ℕ} (p : LargestPower m n) → n ≤ 2 ^ suc (p .exponent)
+largest-next {m} {n} p =
+    by-cases (decLe n (2 ^ suc (p .exponent))) (λ a. a)
+    (λ a. absurd (omega (arith, p .largest (suc (p .exponent)) (omega arith), p .power, pow-pos (p .exponent))))
+
+largest-of : (k n : ℕ) → 2 ^ k < n → n ≤ 2 ^ suc k → LargestPower (2 ^ k) n
+largest-of k n p q =
+    record {
+      exponent = k;
+      power = refl;
+      below = omega arith;
+      largest = λ j l.
+          by-cases (decLe j k) (λ a. pow-mono {i = j} {j = k} a)
+          (λ a. absurd (let y : 2 ^ suc k ≤ 2 ^ j = pow-mono {i = suc k} {j = j} (omega arith) in omega arith));
+    }
+
+-- ---- there is a split
+
+split-in : (h : ℕ) (rs : List (List ℕ)) → 1 ≤ length rs → length rs ≤ 2 ^ h → Split rs
+split-in zero [] p q = absurd (omega arith)
+split-in zero (r ∷ []) p q = one r
+split-in zero (r ∷ s ∷ rs) p q = absurd (omega arith)
+split-in (suc h) rs p q =
+    by-cases (decLe (length rs) (2 ^ h)) (split-in h rs p)
+    (λ a.
+    let n : length (take (2 ^ h) rs) ≡ 2 ^ h = length-take-le (2 ^ h) rs (omega arith) in
+    let m : length (drop (2 ^ h) rs) ≡ length rs - 2 ^ h = length-drop (2 ^ h) rs in
+    more rs (2 ^ h) (largest-of h (length rs) (omega arith) q)
+    (split-in h (take (2 ^ h) rs) (omega (arith, pow-pos h)) (omega arith))
+    (split-in h (drop (2 ^ h) rs) (omega arith) (omega arith)))
+
+pub split-some : SplitSome
+split-some rs p = split-in _ rs p (height-holds (length rs))

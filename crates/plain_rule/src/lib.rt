@@ -1,0 +1,1 @@
+// Definitions and laws only: the root of a list of records, without positions.
