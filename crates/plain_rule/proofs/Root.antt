@@ -13,9 +13,9 @@ use Rattle.nodes.specs.Nodes.{nodeIn}
 use Rattle.log.specs.Outcome.{RootOutcome, rootRefused, rootOrder, rootDone, rootOver, rootOutcome}
 use Rattle.log.proofs.Grown.{root-of-log}
 use Rattle.log.proofs.Appends.{run-sound}
-use Rattle.plain_rule.specs.Root.{Answers, none, root, RootAnswers, SoundAnswers, RunAnswers}
-use Rattle.plain_rule.proofs.Splits.{split-some}
-use Rattle.plain_rule.proofs.Tree.{plain-root}
+use Rattle.plain_rule.specs.Root.{Answers, none, root, RootAnswers, SoundAnswers, RunAnswers, AnswersOnly}
+use Rattle.plain_rule.proofs.Splits.{split-some, split-long}
+use Rattle.plain_rule.proofs.Tree.{plain-root, plain-only}
 
 -- no record: 10, over any buffer
 root-of-none : (digest : List ℕ → List ℕ) (bs : List ℕ) → rootOutcome digest (sizeOf 0) bs ≡ rootRefused 10
@@ -23,6 +23,13 @@ unfolding rootOutcome rootOver rootOrder
 root-of-none digest bs =
     let c = counts-size 0 (omega arith) in
     sym (refuses 10 rootRefused _ (rootDone digest (nodeIn bs) (sizeOf 0)) refl (search needs))
+
+-- a list of records has one answer
+pub answers-only : (digest : List ℕ → List ℕ) → AnswersOnly digest
+answers-only digest rs o p none none = refl
+answers-only digest rs o p none (root t) = absurd (omega (arith, split-long t))
+answers-only digest rs o p (root s) none = absurd (omega (arith, split-long s))
+answers-only digest rs o p (root s) (root t) = ap (λ (d : List ℕ). record { number = 0; root = d }) (plain-only digest rs s t)
 
 module _ (digest : List ℕ → List ℕ) (digest-32 : (x : List ℕ) → length (digest x) ≡ 32) where
   -- of any buffer that begins with the records' nodes

@@ -46,3 +46,8 @@ split-in (suc h) rs p q =
 
 pub split-some : SplitSome
 split-some rs p = split-in _ rs p (height-holds (length rs))
+
+-- and no other is
+pub split-long : {rs : List (List ℕ)} → Split rs → 1 ≤ length rs
+split-long (one r) = omega arith
+split-long (more rs m p l r) = omega (arith, p .below)

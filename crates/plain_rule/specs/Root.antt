@@ -1,4 +1,5 @@
 -- The root call by the plain rule, over any digest function: over any buffer that begins with a log's nodes, and after any run of appends.
+use mathlib.Core.Path.{_≡_}
 use mathlib.Core.List.{List, []}
 use Prim.Native.Nat.{ℕ, _≤_}
 use lib.ListN.{length}
@@ -27,3 +28,7 @@ module _ (digest : List ℕ → List ℕ) where
   -- `run-answers`: of the records that were taken by any run of appends to an empty log over any buffer, refused ones among them
   abbrev pub RunAnswers : Type 0
   RunAnswers = (bs : List ℕ) (rs : List (List ℕ)) → let s = run digest (empty bs) rs in Answers (s .taken) (rootOutcome digest (s .size) (s .bytes))
+
+  -- `answers-only`: a list of records has one answer
+  abbrev pub AnswersOnly : Type 0
+  AnswersOnly = (rs : List (List ℕ)) (o p : RootOutcome) → Answers rs o → Answers rs p → o ≡ p
