@@ -15,7 +15,7 @@ _keeper() {
     esac
     case ${COMP_WORDS[1]} in
     append) options="--folder --stream --acknowledge --keep-records --wait --key" ;;
-    root) options="--size --bytes --key" ;;
+    root) options="--size --bytes --records --folder --stream --key" ;;
     info) options="--key" ;;
     letter) options="--size --record --key" ;;
     check) options="--show --record --records-to --page --key" ;;

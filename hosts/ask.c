@@ -1,4 +1,4 @@
-/* keeper root, info, letter and find: what is asked of a log. */
+/* keeper info, letter and find: what is asked of a log. */
 #include <inttypes.h>
 #include <stdio.h>
 #include <string.h>
@@ -12,41 +12,8 @@
 #include "store.h"
 #include "trusted.h"
 
-enum { PAIR = 64, NUMBER = 8 };
+enum { PAIR = 64 };
 static Input record, written;
-
-/* ---- root */
-
-/* The size in 8 bytes, big-endian, and the root. */
-static void write_noted(uint64_t size, const uint8_t top[NODE]) {
-    uint8_t bytes[NUMBER];
-    for (int i = 0; i < NUMBER; i++) bytes[i] = (uint8_t)(size >> 8 * (NUMBER - 1 - i));
-    fwrite(bytes, 1, NUMBER, stdout);
-    fwrite(top, 1, NODE, stdout);
-}
-
-int root(const Asked *asked) {
-    Store log;
-    uint8_t top[NODE];
-    char digits[2 * NODE + 1];
-    uint64_t leaves = 0;
-    demand_words(asked, 1, 1);
-    if (asked->bytes && asked->json) wrong_use("--bytes and --json are two forms of one answer");
-    if (asked->bytes && isatty(STDOUT_FILENO)) fail("these are bytes and no text: send them to a file, >NOTED");
-    store_open(&log, asked->words[0], TO_READ, 0);
-    uint64_t size = size_asked(&log, asked);
-    uint32_t number = trusted_root(&log, size, top);
-    if (number != KEEPER_DONE) return refused("root", number);
-    keeper_leaf_count(size, &leaves);
-    hex_of(top, NODE, digits);
-    if (asked->bytes) write_noted(size, top);
-    else line("%" PRIu64 " %s", size, digits);
-    put_number("size", size);
-    put_text("root", digits);
-    put_number("records", leaves);
-    store_close(&log);
-    return DONE;
-}
 
 /* ---- info */
 

@@ -24,6 +24,9 @@ static const char usage[] =
     "           --wait SECONDS              waits so long for another program that appends\n"
     "keeper root LOG                        the size and the root, which the panel notes\n"
     "keeper root LOG --bytes >NOTED         the same as 40 bytes, which the panel's program reads before a letter\n"
+    "keeper root LOG --records [FILE..]     the root worked out from the records by the plain rule, each file one, and whether it is the log's;\n"
+    "                                       without a file from those kept beside the log, without LOG it is only worked out\n"
+    "           --folder FOLDER, --stream   with --records: the records of a folder or on standard input, as append takes them\n"
     "keeper info LOG                        records, size, root, file and state\n"
     "keeper letter LOG INDEX <RECORD >LETTER\n"
     "                                       the proof letter of a record; where records are kept, none need be given\n"
@@ -63,7 +66,7 @@ static const struct {
     int (*run)(const Asked *asked);
 } commands[] = {
     {"append", "--stream --folder --acknowledge --keep-records --wait --key", append},
-    {"root", "--size --bytes --key", root},
+    {"root", "--size --bytes --records --folder --stream --key", root},
     {"info", "--key", info},
     {"letter", "--size --record --key", write_letter},
     {"check", "--show --record --records-to --page --key", check},

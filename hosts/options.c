@@ -54,6 +54,7 @@ static int take_option(Asked *asked, const char *takes, int left, char **words) 
     if (!option || (!general && !is_taken(takes, option->name))) wrong_use("%s takes no %s", asked->command, words[0]);
     if (option->flag) {
         if (words[0][length] != 0) wrong_use("%s takes no value", option->name);
+        if (option->flag == offsetof(Asked, records) && !asked->records) asked->before_records = asked->count;
         *(int *)(void *)((char *)asked + option->flag) = 1;
         return 1;
     }

@@ -11,6 +11,7 @@ typedef struct {
     const char *folder, *size, *record, *records_to, *page, *wait, *key;
     char **words; /* what is no option */
     int count;
+    int before_records; /* how many of them stand before --records */
 } Asked;
 
 /* The options that a command takes, by name: "--stream --wait". */

@@ -111,6 +111,12 @@ uint32_t keeper_digest(const keeper_mode *mode, const uint8_t *bytes, size_t len
     return KEEPER_DONE;
 }
 
+uint32_t keeper_size(uint64_t leaves, uint64_t *size) {
+    if (leaves > most) return KEEPER_TOO_MANY_LEAVES;
+    *size = size_of(leaves);
+    return KEEPER_DONE;
+}
+
 uint32_t keeper_leaf_position(uint64_t index, uint64_t *position) {
     if (index >= most) return KEEPER_NO_SUCH_LEAF;
     *position = size_of(index);
