@@ -13,7 +13,7 @@ import time
 from concurrent.futures import ThreadPoolExecutor
 
 
-DIGESTS = ("test_append", "test_check", "test_letters", "test_page")
+DIGESTS = ("test_append", "test_check", "test_letters", "test_page", "test_plain")
 FILES = ("test_damage", "test_hostile", "test_records")
 CRASHES = ("test_crashes",)
 

@@ -8,12 +8,15 @@ from harness import CHECKED, COPY, FEWER, NODE, NODES, PAGE, RECORDS, SEALED, Ho
 class Hostile(HostTest):
     def tried(self, path, records):
         """Every command on such a file: no crash, and nothing that goes out is false."""
-        for words in (("root",), ("info",), ("verify",), ("verify", "--records"), ("letter", "1"), ("append",), ("repair", self.folder / "copy")):
+        for words in (("root",), ("root", "--records"), ("info",), ("verify",), ("verify", "--records"), ("letter", "1"), ("append",),
+                      ("repair", self.folder / "copy")):
             ran = keeper(words[0], path, *words[1:], given=RECORDS[1])
             self.assertIn(ran.returncode, (0, 1, 2), (words, ran.returncode, ran.stderr))
             self.assertNotIn(b"Sanitizer", ran.stderr)
             if words[0] == "letter" and ran.returncode == 0:
                 self.assertIn(ran.stdout, [letter_of(records[:count], 1) for count in range(2, len(records) + 1)])
+            if words == ("root", "--records") and ran.returncode == 0:
+                self.assertIn(ran.stdout.split()[1].decode(), [said_of(records[:count])[1].hex() for count in range(1, len(records) + 1)])
         (self.folder / "copy").unlink(missing_ok=True)
 
     def test_random_changes(self):

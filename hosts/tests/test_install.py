@@ -85,9 +85,11 @@ class Manual(HostTest):
 
     @unittest.skipUnless(shutil.which("bash"), "no bash here")
     def test_completion(self):
-        script = 'source "$0"; COMP_WORDS=(keeper ver); COMP_CWORD=1; _keeper; echo "${COMPREPLY[@]}"; COMP_WORDS=(keeper check 1 2 --p); COMP_CWORD=4; _keeper; echo "${COMPREPLY[@]}"'
+        script = 'source "$0"; '
+        for words in ("keeper ver", "keeper check 1 2 --p", "keeper root log --r", "keeper root --records --st"):
+            script += f'COMP_WORDS=({words}); COMP_CWORD={len(words.split()) - 1}; _keeper; echo "${{COMPREPLY[@]}}"; '
         ran = subprocess.run(["bash", "-c", script, TOP / "completion" / "keeper.bash"], capture_output=True, check=True)
-        self.assertEqual(ran.stdout, b"verify\n--page\n")
+        self.assertEqual(ran.stdout, b"verify\n--page\n--records\n--stream\n")
 
 
 if __name__ == "__main__":

@@ -5,7 +5,7 @@ import subprocess
 import threading
 import unittest
 
-from harness import COPY, NODE, NODES, PAGE, RECORDS, TOP, HostTest, flipped, keeper, letter_of, said_of, sealed, stream_of
+from harness import COPY, NODE, NODES, PAGE, RECORDS, TOP, HostTest, digest_by, flipped, keeper, letter_of, plain_root, said_of, sealed, stream_of
 
 # bytes that a shell or a line would trip over, and none that stands in a log by chance
 OURS = b"\0\n\\%\xff '\"" + bytes((73 * place + 19) % 256 for place in range(24))
@@ -34,7 +34,8 @@ class KeyTest(HostTest):
     def every(self):
         """Every command that takes a key, and what it reads on standard input."""
         for words in (("append", self.log), ("append", self.log, "--stream"), ("append", self.log, self.record), ("root", self.log), ("root", self.log, "--bytes"),
-                      ("root", self.log, "--size", 1), ("info", self.log), ("letter", self.log, 1), ("find", self.log, self.record, self.letter),
+                      ("root", self.log, "--size", 1), ("root", self.log, "--records", self.record), ("info", self.log), ("letter", self.log, 1),
+                      ("find", self.log, self.record, self.letter),
                       ("verify", self.log), ("verify", self.log, "--records"), ("repair", self.log, self.folder / "copy")):
             yield words, b"\0\0\0\1x" if "--stream" in words else self.records[1]
 
@@ -94,7 +95,8 @@ class KeyFiles(KeyTest):
         self.assertEqual(self.done("letter", self.log, 1, "--record", self.record, "--key", "-", given=OURS), self.letter.read_bytes())
         before = self.looked_at()
         for words in (("append", self.log), ("append", self.folder / "new"), ("append", self.log, "--stream"), ("append", self.folder / "new", "--stream"),
-                      ("letter", self.log, 1), ("check", self.size, self.top.hex())):
+                      ("root", self.log, "--records", "--stream"), ("root", "--records", "--stream"), ("letter", self.log, 1),
+                      ("check", self.size, self.top.hex())):
             self.failed("standard input cannot be the key and something else too", *words, "--key", "-", given=OURS)
         self.assertEqual(self.looked_at(), before)
 
@@ -188,6 +190,17 @@ class Leagues(KeyTest):
             self.refused(9, "check", self.size, top, *(("--key", key) if key else ()), given=given)
         said = self.ran(1, "", "check", self.size, ours, self.letter, self.file("plain", plain), "--key", self.key).decode().splitlines()
         self.assertEqual(said[2], "2 letters: 1 accepted, 1 refused, 0 not read")
+
+    def test_plain_rule(self):
+        """The root of records is worked out in the mode of the key that is given, and is the log's in the log's own."""
+        self.make_keyed()
+        given = stream_of(self.records)
+        for key, words in ((OURS, ("--key", self.key)), (THEIRS, ("--key", self.other)), (None, ())):
+            wanted = f"{self.size} {plain_root(list(self.records), digest_by(key)).hex()}\n".encode()
+            self.assertEqual(self.done("root", "--records", "--stream", *words, given=given), wanted)
+        answer = self.object(0, "root", self.log, "--records", "--stream", "--key", self.key, given=given)
+        self.assertEqual((answer["is_the_logs"], answer["root"]), (True, self.top.hex()))
+        self.failed("log has another root", "root", self.log, "--records", "--stream", "--key", self.key, given=stream_of(self.records[::-1]))
 
     def test_finder(self):
         """The log of a league does not take the other's letter for its own."""

@@ -53,6 +53,13 @@ class Closed(HostTest):
         self.assertIn(b"standard input: it is closed", run(("append", self.log), (0,))[2])
         self.make(RECORDS[:1])
         self.assertIn(b"cannot write to standard output", run(("root", self.log), (1,))[2])
+        closed = b"standard input: it is closed"
+        for streams, word in (((0,), closed), ((1,), b"cannot write to standard output"), ((0, 1), closed)):
+            for log in ((), (self.log,)):
+                status, out, err = run(("root", *log, "--records", "--stream"), streams, stream_of(RECORDS[:1]))
+                self.assertEqual((status, out), (2, b""))
+                self.assertIn(word, err)
+        self.assertEqual(run(("root", self.log, "--records", self.file("first", RECORDS[0])), (0, 2))[0], 0)
 
 
 class Unwritten(HostTest):
@@ -72,6 +79,8 @@ class Unwritten(HostTest):
         size, top, _ = said_of(RECORDS[:3])
         for words in (("root", self.log), ("root", self.log, "--bytes"), ("info", self.log), ("verify", self.log), ("help",), ("--version",)):
             self.full(*words)
+        for words in (("root", self.log), ("root",), ("root", "--bytes"), ("root", self.log, "--json")):
+            self.full(*words, "--records", "--stream", given=stream_of(RECORDS[:3]))
         self.full("letter", self.log, 1, given=RECORDS[1])
         self.full("check", size, top.hex(), given=letter_of(RECORDS[:3], 1))
         self.full("check", size, top.hex(), "--json", given=letter_of(RECORDS[:3], 1))

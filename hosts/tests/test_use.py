@@ -11,7 +11,8 @@ class WrongUse(HostTest):
                       ("append",), ("append", self.log, "--folder"), ("append", self.log, "--other"), ("append", self.log, "--acknowledge"),
                       ("append", self.log, "--stream", "--folder", "x"), ("append", self.log, "file", "--stream"), ("root", self.log, "--bytes", "--json"),
                       ("check", 1), ("check", 1, "00", "--record"), ("check", 1, "00", "letter", "--page", "x"), ("find", self.log), ("letter", self.log),
-                      ("repair", self.log), ("verify", self.log, "--size", "1"), ("--stream",)):
+                      ("repair", self.log), ("verify", self.log, "--size", "1"), ("verify", self.log, "--stream"), ("root", "--records"),
+                      ("root", self.log, "--stream"), ("root", self.log, "file", "--records"), ("--stream",)):
             ran = keeper(*words)
             self.assertEqual(ran.returncode, 2, words)
             self.assertIn(b"wrong use", ran.stderr)
@@ -29,6 +30,7 @@ class WrongUse(HostTest):
 
     def test_files(self):
         for words in (("root", self.log), ("letter", self.log, 0), ("append", self.folder / "no" / "log"), ("root", self.folder), ("info", self.log),
+                      ("root", self.log, "--records"), ("root", self.log, "--records", self.log), ("root", "--records", self.log),
                       ("verify", self.log), ("repair", self.log, self.folder / "copy")):
             self.failed("keeper: ", *words)
         self.assertEqual(list(self.folder.iterdir()), [])
