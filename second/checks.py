@@ -7,6 +7,7 @@ from expected.given import KEYS, LEAGUES, counting_bytes, flips_of, letter_in, l
 from grown import grown
 from page import check_page
 from portable.orders import check_orders
+from review import check_review
 from rules.blake3 import PLAIN, Mode, digest, keyed
 from rules.finder import PAIR, find, log_inputs
 from rules.letters import LETTER_HEAD, MOST_ITEMS, WHOLE_LETTER, check_letter, index_in, items_in, letter_bytes, letter_inputs, letter_of, record_in
@@ -221,4 +222,5 @@ def check():
     good &= check_items()
     good &= check_numbers()
     good &= check_page()
+    good &= check_review()
     return good

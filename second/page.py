@@ -8,6 +8,7 @@ from portable.orders import FROM_7, ORDERS
 from rules.blake3 import KEY, PLAIN, Mode, digest, keyed, words_of
 from rules.letters import PANEL_HEAD, PANEL_MOST, WHOLE_LETTER, check_letter, keyed_panel, letter_bytes, letter_of, panel
 from rules.log import LONGEST_RECORD, NODE, append, node, root
+from rules.plain import largest_power
 from rules.shape import MOST_LEAVES, items_of, leaf_count, leaf_position, nodes_of, size_of
 from rules.stored import stored_inner, stored_leaf
 
@@ -85,6 +86,8 @@ def sentences():
     yield f"sizes {with_comma(answer.size for answer in answers)}, hash counts {with_comma(answer.hashes for answer in answers)}."
     yield f"M13: at n = 7 the hash count is {append(nodes_of(7), b'', bytearray(NODE * nodes_of(8))).hashes}:"
     yield f"| letter | {len(WHOLE_LETTER)} bytes | {len(longest):,} bytes (20 + {LONGEST_RECORD:,} + 32 × {NODE}) |"
+    yield (f"Eleven records are split after {largest_power(11)}, and the three that are left after {largest_power(11 - largest_power(11))};"
+           f" four are split after {largest_power(4)}.")
     for more in (0, KEY):
         yield f"It reads at most {more + PANEL_MOST:,} bytes, which is {more + PANEL_HEAD} and one more than the longest letter"
     yield f"the {KEY} ASCII bytes `{KEYS[0].decode()}`."

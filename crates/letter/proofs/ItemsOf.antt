@@ -13,7 +13,8 @@ use Rattle.wire.specs.Slices.{Each, joined}
 use Rattle.shape.specs.Folded.{tree}
 use Rattle.shape.specs.Nodes.{Holds, nodes}
 use Rattle.shape.specs.Positions.{top, behind, peaksIn, alone, positionsIn, itemPositions, fold}
-use Rattle.shape.specs.Letter.{way, items}
+use Rattle.shape.specs.Letter.{items}
+use Rattle.shape.specs.Way.{way}
 use Rattle.wire.proofs.Each.{each-append}
 use Rattle.shape.proofs.Counting.{counts-known}
 use Rattle.shape.proofs.Heights.{height-holds}

@@ -7,7 +7,8 @@ use lib.ListN.{length}
 use Rattle.wire.specs.Slices.{part, rowsFrom}
 use Rattle.shape.specs.Tree.{Tree, tip, fork, Turn, left, right, past, root}
 use Rattle.shape.specs.Sizes.{heightOf}
-use Rattle.shape.specs.Letter.{wayIn, way, fill}
+use Rattle.shape.specs.Letter.{fill}
+use Rattle.shape.specs.Way.{wayIn, way}
 use Rattle.letter.specs.Items.{itemCount, treeOf}
 use Rattle.wire.proofs.Rows.{digests-first, digests-but-last, digests-last, digests-but-first}
 

@@ -7,7 +7,8 @@ use lib.ListN.{length}
 use lib.Dec.{eqb}
 use borrow.Author.Tests.{eq-eqb, ne-eqb}
 use Rattle.shape.specs.Tree.{Turn, left, right, past}
-use Rattle.shape.specs.Letter.{rightward, wayIn}
+use Rattle.shape.specs.Letter.{rightward}
+use Rattle.shape.specs.Way.{wayIn}
 use Rattle.shape.proofs.Powers.{Halved, halved}
 use Rattle.shape.proofs.Ways.{way-low, way-left, way-turn}
 

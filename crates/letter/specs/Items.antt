@@ -12,7 +12,8 @@ use Rattle.wire.specs.Slices.{differ}
 use Rattle.shape.specs.Sizes.{countAnswer, leaves, positionAnswer}
 use Rattle.shape.specs.Positions.{itemPositions, fold}
 use Rattle.shape.specs.Tree.{Tree, root}
-use Rattle.shape.specs.Letter.{way, fill}
+use Rattle.shape.specs.Letter.{fill}
+use Rattle.shape.specs.Way.{way}
 use Rattle.letter.specs.Bytes.{indexIn, recordIn, itemsIn}
 
 -- the number of items for index i of n leaves: one for each turn on the way to it, as many as RULES 9.2 lists (`items-counted`)

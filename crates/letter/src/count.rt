@@ -2,7 +2,7 @@
 ghost use mathlib.Core.Path.{_≡_};
 ghost use Prim.Native.Nat.{_≤_};
 ghost use lib.ListN.{length};
-ghost use Rattle.shape.specs.Letter.{wayIn};
+ghost use Rattle.shape.specs.Way.{wayIn};
 ghost use Rattle.letter.specs.Items.{itemCount};
 
 // The turns on the way to leaf i of n, n at most 2^h.

@@ -6,7 +6,8 @@ use Prim.Native.Nat.{ℕ}
 use lib.ListN.{length}
 use Rattle.wire.specs.Numbers.{Bytes}
 use Rattle.shape.specs.Tree.{Tips32, root, inputs}
-use Rattle.shape.specs.Letter.{way, fill}
+use Rattle.shape.specs.Letter.{fill}
+use Rattle.shape.specs.Way.{way}
 use Rattle.shape.specs.Difference.{decided, Diff, agree, unequal, difference, Collision, Shown}
 use Rattle.shape.proofs.Difference.{shown-map}
 use Rattle.shape.proofs.Bind.{bind}

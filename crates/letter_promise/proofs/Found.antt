@@ -13,7 +13,8 @@ use Rattle.wire.proofs.Differences.{differ-same, differ-other, same-of-differ}
 use Rattle.wire.proofs.Splices.{splice-front}
 use Rattle.shape.specs.Tree.{Tree, inputs}
 use Rattle.shape.specs.Folded.{tree}
-use Rattle.shape.specs.Letter.{way, fill}
+use Rattle.shape.specs.Letter.{fill}
+use Rattle.shape.specs.Way.{way}
 use Rattle.shape.specs.Difference.{decided, Diff, agree, unequal, difference, ShownAt}
 use Rattle.shape.proofs.Difference.{difference-none}
 use Rattle.shape.proofs.Letters.{letter-bind}

@@ -10,7 +10,8 @@ use Rattle.shape.specs.Sizes.{sizeOf, positionAnswer}
 use Rattle.shape.specs.Tree.{Tips32, root, inputs}
 use Rattle.shape.specs.Folded.{tree}
 use Rattle.shape.specs.Nodes.{Holds, nodes}
-use Rattle.shape.specs.Letter.{way, Leads, fill, items}
+use Rattle.shape.specs.Letter.{Leads, fill, items}
+use Rattle.shape.specs.Way.{way}
 use Rattle.shape.specs.Seen.{seen, broken}
 use Rattle.shape.proofs.Sizes.{size-le, position-answer}
 use Rattle.wire.proofs.Each.{each-map}

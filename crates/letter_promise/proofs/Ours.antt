@@ -6,7 +6,8 @@ use native.Mathlib.Omega.{arith}
 use lib.ListN.{length}
 use Rattle.wire.specs.Slices.{Each}
 use Rattle.shape.specs.Tree.{root}
-use Rattle.shape.specs.Letter.{way, fill}
+use Rattle.shape.specs.Letter.{fill}
+use Rattle.shape.specs.Way.{way}
 use Rattle.shape.proofs.Letters.{items-length, items-32, complete}
 use Rattle.shape.specs.Sizes.{leaves}
 use Rattle.nodes.specs.Nodes.{nodeIn}

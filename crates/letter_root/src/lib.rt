@@ -6,7 +6,8 @@ ghost use lib.ListN.{length};
 ghost use Rattle.wire.specs.Slices.{part, rowsFrom};
 ghost use Rattle.digest.specs.Digest.{digestIn};
 ghost use Rattle.shape.specs.Tree.{root};
-ghost use Rattle.shape.specs.Letter.{wayIn, fill};
+ghost use Rattle.shape.specs.Letter.{fill};
+ghost use Rattle.shape.specs.Way.{wayIn};
 ghost use Rattle.letter.specs.Items.{itemCount, treeOf};
 use digest::Digest;
 

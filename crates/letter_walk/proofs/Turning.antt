@@ -7,7 +7,7 @@ use native.Mathlib.Omega.{arith}
 use lib.ListN.{length}
 use lib.Pow.{pow-mono}
 use Rattle.shape.specs.Tree.{left, right, past}
-use Rattle.shape.specs.Letter.{wayIn}
+use Rattle.shape.specs.Way.{wayIn}
 use Rattle.shape.specs.Positions.{top, behind, peaksIn, fold}
 use Rattle.shape.specs.Difference.{agree, difference}
 use Rattle.shape.specs.Seen.{seenIn}

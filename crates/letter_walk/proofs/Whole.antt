@@ -10,7 +10,7 @@ use lib.ListN.{length}
 use lib.Pow.{pow-mono}
 use Rattle.shape.specs.Sizes.{heightOf}
 use Rattle.shape.specs.Tree.{root, inputs}
-use Rattle.shape.specs.Letter.{wayIn, way}
+use Rattle.shape.specs.Way.{wayIn, way}
 use Rattle.shape.specs.Positions.{peaksIn, peaks, fold}
 use Rattle.shape.specs.Difference.{difference}
 use Rattle.shape.specs.Seen.{seenIn, seen, broken}

@@ -7,7 +7,8 @@ use lib.ListN.{length}
 use Rattle.wire.specs.Limits.{mostLeaves}
 use Rattle.wire.specs.Slices.{rowsFrom, zeros}
 use Rattle.shape.specs.Tree.{Tree, root, inputs}
-use Rattle.shape.specs.Letter.{way, fill}
+use Rattle.shape.specs.Letter.{fill}
+use Rattle.shape.specs.Way.{way}
 use Rattle.shape.specs.Positions.{peaks, fold}
 use Rattle.shape.specs.Seen.{seen, broken}
 use Rattle.shape.specs.Difference.{Diff, agree, difference}

@@ -7,7 +7,8 @@ use lib.Dec.{eqb}
 use lib.ListN.{length}
 use Rattle.wire.specs.Slices.{differ, rowsFrom}
 use Rattle.shape.specs.Tree.{Tree, root, inputs}
-use Rattle.shape.specs.Letter.{wayIn, fill}
+use Rattle.shape.specs.Letter.{fill}
+use Rattle.shape.specs.Way.{wayIn}
 use Rattle.shape.specs.Positions.{peaksIn, fold}
 use Rattle.shape.specs.Seen.{seenIn}
 use Rattle.shape.specs.Difference.{difference}

@@ -11,7 +11,8 @@ use lib.ListN.{length, length-map, length-drop, take, drop}
 use lib.Seq.{length-take-le}
 use Rattle.shape.specs.Tree.{fork, Turn, left, root}
 use Rattle.shape.specs.Folded.{treeIn, tree}
-use Rattle.shape.specs.Letter.{rightward, wayIn, way}
+use Rattle.shape.specs.Letter.{rightward}
+use Rattle.shape.specs.Way.{wayIn, way}
 use Rattle.shape.proofs.Trees.{tree-any, tree-split}
 use Rattle.shape.proofs.Ways.{way-left, way-turn, way-any}
 use Rattle.plain_rule.specs.Rule.{LargestPower, Split, one, more, plainRoot, PlainOnly}

@@ -14,7 +14,8 @@ use Rattle.wire.proofs.Differences.{differ-same, same-of-differ}
 use Rattle.wire.proofs.Each.{each-take, each-drop, each-at}
 use Rattle.shape.specs.Sizes.{sizeOf, heightOf}
 use Rattle.shape.specs.Tree.{Turn, root, inputs}
-use Rattle.shape.specs.Letter.{wayIn, way, fill}
+use Rattle.shape.specs.Letter.{fill}
+use Rattle.shape.specs.Way.{wayIn, way}
 use Rattle.shape.specs.Positions.{top, behind, peaksIn, peaks, fold}
 use Rattle.shape.specs.Difference.{decided, Diff, agree, unequal, difference, Shown}
 use Rattle.shape.specs.Seen.{either, sides, seenIn, seen, brokenIn, broken}

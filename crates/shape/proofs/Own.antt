@@ -13,7 +13,8 @@ use Rattle.shape.specs.Tree.{Tree, tip, fork, Turn, left, right, past, r
 use Rattle.shape.specs.Folded.{treeIn, tree}
 use Rattle.shape.specs.Nodes.{Holds, perfect, nodesIn, nodes}
 use Rattle.shape.specs.Positions.{behind}
-use Rattle.shape.specs.Letter.{wayIn, way, Leads, here, to-left, to-right, to-past, fill, items}
+use Rattle.shape.specs.Letter.{Leads, here, to-left, to-right, to-past, fill, items}
+use Rattle.shape.specs.Way.{wayIn, way}
 use Rattle.shape.specs.Seen.{sides, seenIn, seen, brokenIn, broken}
 use Rattle.shape.proofs.Heights.{height-holds}
 use Rattle.shape.proofs.Letters.{items-length, complete}

@@ -13,7 +13,8 @@ use Rattle.shape.specs.Tree.{root}
 use Rattle.shape.specs.Folded.{treeIn, tree}
 use Rattle.shape.specs.Nodes.{Holds, perfectRoot, perfect, nodesIn, nodes}
 use Rattle.shape.specs.Positions.{top, behind, peaksIn, peaks, alone, positionsIn, itemPositions, fold}
-use Rattle.shape.specs.Letter.{wayIn, way, items}
+use Rattle.shape.specs.Letter.{items}
+use Rattle.shape.specs.Way.{wayIn, way}
 use Rattle.shape.proofs.Heights.{height-holds}
 use Rattle.shape.proofs.Trees.{tree-low, tree-high}
 use Rattle.shape.proofs.Letters.{items-length}

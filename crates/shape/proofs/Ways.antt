@@ -13,7 +13,8 @@ use lib.Dec.{eqb}
 use borrow.Author.Tests.{le-leb, lt-leb, lt-ltb, le-ltb, eq-eqb, ne-eqb}
 use Rattle.shape.specs.Tree.{Tree, fork, Turn, left, right, past}
 use Rattle.shape.specs.Folded.{treeIn, tree}
-use Rattle.shape.specs.Letter.{rightward, wayIn, way, Leads, here, to-left, to-right, to-past}
+use Rattle.shape.specs.Letter.{rightward, Leads, here, to-left, to-right, to-past}
+use Rattle.shape.specs.Way.{wayIn, way}
 use Rattle.shape.proofs.Heights.{any-height, height-holds}
 use Rattle.shape.proofs.Trees.{tree-low, tree-high}
 

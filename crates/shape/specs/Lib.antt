@@ -7,6 +7,7 @@ pub mod Positions
 pub mod Tree
 pub mod Folded
 pub mod Letter
+pub mod Way
 pub mod Difference
 pub mod Hashed
 pub mod Seen

@@ -19,7 +19,7 @@ pub data Alike : Tree → Tree → Type 0 where
   tips : {d e : List ℕ} → Alike (tip d) (tip e)
   forks : {l m r s : Tree} → Alike l m → Alike r s → Alike (fork l r) (fork m s)
 
--- a turn at a fork on the way down: left; right; and, in a log's tree, right past a peak
+-- a turn at a fork on the way down: left; right; and, in a log's tree, right past a left side that is longer
 pub data Turn : Type 0 where
   left right past : Turn
 

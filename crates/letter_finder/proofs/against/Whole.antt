@@ -7,7 +7,7 @@ use Rattle.digest.specs.Digest.{digestIn, digest-length}
 use Rattle.wire.specs.Slices.{differ, rowsFrom}
 use Rattle.wire.proofs.Differences.{same-of-differ}
 use Rattle.shape.specs.Tree.{root, inputs}
-use Rattle.shape.specs.Letter.{way}
+use Rattle.shape.specs.Way.{way}
 use Rattle.shape.specs.Difference.{agree, difference}
 use Rattle.shape.specs.Seen.{seen, broken}
 use Rattle.nodes.specs.Nodes.{nodeIn}

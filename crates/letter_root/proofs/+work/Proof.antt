@@ -5,7 +5,7 @@ use borrow.Author.Needs.{needs}
 use borrow.Fn.Kinds.{In}
 use borrow.Fn.PlainCycle.{Measures, is, falls, and}
 use Rattle.digest.specs.Digest.{digestIn}
-use Rattle.shape.specs.Letter.{wayIn}
+use Rattle.shape.specs.Way.{wayIn}
 use Rattle.shape.proofs.Ways.{way-most}
 use Rattle.letter.proofs.Turns.{turn-none, turn-low, turn-left, turn-right, turn-past}
 use Rattle.letter.proofs.Sides.{side-none, side-left, side-right, side-past}

@@ -3,7 +3,7 @@ use mathlib.Core.Path.{ap, _∙_}
 use Prim.Native.Nat.{ℕ}
 use native.Mathlib.Omega.{arith}
 use lib.ListN.{length}
-use Rattle.shape.specs.Letter.{way, wayIn}
+use Rattle.shape.specs.Way.{way, wayIn}
 use Rattle.shape.proofs.Heights.{height-least}
 use Rattle.letter.specs.Items.{itemCount}
 use borrow.Author.Needs.{needs}
