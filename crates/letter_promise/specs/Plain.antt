@@ -25,28 +25,29 @@ plainLetter digest rs s i = letterBytes (logSize rs) i (recordAt rs i) (items di
 abbrev pub shownTree : (List ℕ → List ℕ) → (rs : List (List ℕ)) → Split rs → List ℕ → Tree
 shownTree digest rs s letter = let w = turns s (indexIn letter) in fill w (digest (recordIn letter)) (itemsIn (length w) letter)
 
-module _ (digest : List ℕ → List ℕ) where
-  -- of every log, as the rule splits it
-  abbrev pub OfEverySplit : ((rs : List (List ℕ)) → Split rs → Type 0) → Type 0
-  OfEverySplit Says = (rs : List (List ℕ)) → Log rs → (s : Split rs) → Says rs s
+-- ---- the statements, of every log and however the rule splits it, which is one way
 
+module _ (digest : List ℕ → List ℕ) where
   -- `letter-accepted-by-rule`: whoever has the size and the rule's root accepts the letter for every index, with that index and the log's record there
   abbrev pub LetterAcceptedByRule : Type 0
   LetterAcceptedByRule =
-      OfEverySplit (λ rs s. (i : ℕ) → i < length rs → Accepted digest (logSize rs) (plainRoot digest s) (plainLetter digest rs s i) i (recordAt rs i))
+      (rs : List (List ℕ)) → Log rs → (s : Split rs) → (i : ℕ) → i < length rs
+      → Accepted digest (logSize rs) (plainRoot digest s) (plainLetter digest rs s i) i (recordAt rs i)
 
-  -- `letter-written-by-rule`: it is what the writer writes from any buffer that begins with the log's nodes, with room in the output
+  -- `letter-written-by-rule`: it is what the writer writes from any buffer that begins with the log's nodes, as appends leave it (`appends-build`), with
+  -- room in the output
   abbrev pub LetterWrittenByRule : Type 0
   LetterWrittenByRule =
-      OfEverySplit (λ rs s. (i : ℕ) → i < length rs → (bs : List ℕ) → Begins digest bs rs
+      (rs : List (List ℕ)) → Log rs → (s : Split rs) → (i : ℕ) → i < length rs → (bs : List ℕ) → Begins digest bs rs
       → (out : List ℕ) → length (plainLetter digest rs s i) ≤ length out
-      → writeOutcome digest (logSize rs) i (recordAt rs i) bs out ≡ writeDone (plainLetter digest rs s i) out)
+      → writeOutcome digest (logSize rs) i (recordAt rs i) bs out ≡ writeDone (plainLetter digest rs s i) out
 
-  -- `accepted-is-ours-by-rule`: bytes that whoever has the size and the rule's root accepts are that letter, or the finder, with any buffer that begins
-  -- with the log's nodes, gives two different strings with one digest, the log's and the bytes' own at one place
+  -- `accepted-is-ours-by-rule`: bytes that whoever has the size and the rule's root accepts are that letter, or the finder, with such a buffer, gives two
+  -- different strings with one digest, the log's and the bytes' own at one place
   abbrev pub AcceptedIsOursByRule : Type 0
   AcceptedIsOursByRule =
-      OfEverySplit (λ rs s. (letter : List ℕ) → Bytes letter → (i : ℕ) (r : List ℕ) → Accepted digest (logSize rs) (plainRoot digest s) letter i r
+      (rs : List (List ℕ)) → Log rs → (s : Split rs) → (letter : List ℕ) → Bytes letter
+      → (i : ℕ) (r : List ℕ) → Accepted digest (logSize rs) (plainRoot digest s) letter i r
       → (bs : List ℕ) → Begins digest bs rs → (first second : List ℕ) → 64 ≤ length first → 64 ≤ length second
       → Ends digest (plainLetter digest rs s i) (recordAt rs i) (plainTree digest s) (shownTree digest rs s letter) letter r first second
-      (findOutcome digest (logSize rs) bs (recordAt rs i) letter first second))
+      (findOutcome digest (logSize rs) bs (recordAt rs i) letter first second)
