@@ -1,6 +1,6 @@
 #!/bin/sh
-# outside/review.sh: what docs/REVIEW.md says to do by hand for a log of three records, done: with b3sum, another BLAKE3, and with our own keeper, each
-# held to the page's figures. Builds the keeper where that is not done.
+# outside/review.sh: what docs/REVIEW.md says to do by hand for a log of three records, done: with b3sum, another BLAKE3, and with our own keeper,
+# each held to the page's figures. Builds the keeper where that is not done.
 # Exit status: 0 where the page's figures come out; 1 where one does not; 2 where a program is missing.
 set -eu
 here=$(readlink -f -- "$0")

@@ -12,8 +12,8 @@ from rules.blake3 import PLAIN, Mode, digest, keyed
 from rules.finder import PAIR, find, log_inputs
 from rules.letters import LETTER_HEAD, MOST_ITEMS, WHOLE_LETTER, check_letter, index_in, items_in, letter_bytes, letter_inputs, letter_of, record_in
 from rules.letters import size_in
-from rules.log import NODE, append, folded, node, root
-from rules.plain import plain_items, plain_root
+from rules.log import LONGEST_RECORD, NODE, append, folded, node, root
+from rules.plain import plain_items
 from rules.shape import MOST_LEAVES, items_of, leaf_count, leaf_position, nodes_of, size_of, trailing_ones
 from table import check_numbers
 
@@ -66,7 +66,7 @@ def check_marked():
 
 
 def check_logs(most, name):
-    """Logs of 1 to most records in a mode: counts, sizes and positions by two rules each, and the root without positions."""
+    """Logs of 1 to most records in a mode: counts, sizes and positions by two rules each. Their making holds the root to the plain rule."""
     mode = MODES[name]
     records, good = [run_record(i, i) for i in range(most)], 0
     for i, (answer, buffer) in enumerate(grown(records, mode)):
@@ -74,10 +74,18 @@ def check_logs(most, name):
             answer == (0, nodes_of(i + 1), 1 + trailing_ones(i))
             and leaf_count(answer.size) == (0, i + 1)
             and node(buffer, nodes_of(i)) == mode(records[i])
-            and root(answer.size, buffer, mode) == (0, plain_root(records[:i + 1], mode))
         )
-    print(f"logs, {name}: {good} of {most} keep size, count, leaf position, and the root without positions")
+    print(f"logs, {name}: {good} of {most} keep size, count and leaf position, and have the plain rule's root")
     return good == most
+
+
+def check_refusals(name):
+    """Appends in a mode with room for five records, refused ones among them, the first and the last too; the root is held to the rule after each."""
+    longer, room = bytes(LONGEST_RECORD + 1), bytearray(b"\x3c" * NODE * nodes_of(5))
+    records = [longer, b"", longer, longer, b"a", b"b", longer, b"c", b"d", b"e", longer]
+    numbers = [answer.number for answer, _ in grown(records, MODES[name], room)]
+    print(f"refusals, {name}: of {len(numbers)} appends {numbers.count(0)} are taken, and after each the root is the plain rule's")
+    return numbers == [3, 0, 3, 3, 0, 0, 3, 0, 0, 4, 3]
 
 
 def marked_letters():
@@ -215,6 +223,7 @@ def check():
     good &= check_marked_letters()
     for name, leaves in (("plain", 20), ("keyed", 12)):
         good &= check_logs(70, name)
+        good &= check_refusals(name)
         good &= check_letters(leaves, name)
     good &= check_leagues(4)
     good &= check_finder(9)

@@ -14,20 +14,30 @@ def hold(size, records, buffer, digest):
         raise ValueError(f"the root of a log of {len(records)} records is not the plain rule's")
 
 
-def grown(records, digest=PLAIN, buffer=None):
-    """Records appended one by one to an empty log, over a buffer or with just enough room: after each the answer and the buffer."""
-    buffer, size, once = bytearray(NODE * nodes_of(len(records))) if buffer is None else buffer, 0, functools.lru_cache(maxsize=None)(digest)
-    for count, record in enumerate(records, 1):
-        answer = append(size, record, buffer, once)
+def appends(records, digest, buffer):
+    """Appends to an empty log, refused ones among them: after each the answer, and the records that were taken."""
+    size, taken = 0, []
+    for record in records:
+        answer = append(size, record, buffer, digest)
         size = answer.size
-        hold(size, records[:count], buffer, once)
+        taken += [record] * (answer.number == 0)
+        yield answer, taken
+
+
+def grown(records, digest=PLAIN, buffer=None):
+    """Records appended one by one, over a buffer or with just enough room: after each the answer and the buffer, whose root is held to the rule."""
+    once = functools.lru_cache(maxsize=None)(digest)
+    buffer = bytearray(NODE * nodes_of(len(records))) if buffer is None else buffer
+    for answer, taken in appends(records, once, buffer):
+        hold(answer.size, taken, buffer, once)
         yield answer, buffer
 
 
 def log_of(records, digest=PLAIN):
-    """The log of these records: its size and nodes."""
-    buffer, size, once = bytearray(NODE * nodes_of(len(records))), 0, functools.lru_cache(maxsize=None)(digest)
-    for record in records:
-        size = append(size, record, buffer, once).size
+    """The log of these records, its root held to the rule: its size and nodes."""
+    once = functools.lru_cache(maxsize=None)(digest)
+    buffer, size = bytearray(NODE * nodes_of(len(records))), 0
+    for answer, _ in appends(records, once, buffer):
+        size = answer.size
     hold(size, records, buffer, once)
     return size, bytes(buffer)

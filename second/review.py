@@ -1,5 +1,5 @@
-"""The reviewer's page, docs/REVIEW.md: its lines of Python are the plain rule that is run here, and its figures those of the rules. And wrong rules are
-told from it."""
+"""The reviewer's page, docs/REVIEW.md: its lines of Python are the plain rule that is run here, and its figures those of the rules. And wrong rules
+are told from it."""
 import inspect
 import re
 from pathlib import Path
@@ -47,7 +47,8 @@ def by_split(split, join=lambda left, right: left + right, alone=lambda digest: 
     return rule
 
 
-# Wrong rules, and up to sixteen records the numbers of them for which they give the right root all the same. A split that leaves a side empty gives none.
+# Wrong rules, and up to sixteen records the numbers of them for which they give the right root all the same. A split that leaves a side empty
+# gives none.
 WRONG = (
     ("split at half", by_split(lambda count: count // 2), [1, 2, 4, 8, 16]),
     ("split after the smallest power of two not below", by_split(lambda count: 2 * largest_power(count)), [1]),
@@ -69,5 +70,6 @@ def check_review():
     """The page, and the wrong rules."""
     page = REVIEW.read_text()
     code, figures, told = code_stands(page), figures_stand(page), all([*wrong_rules()])
-    print(f"review: docs/REVIEW.md {'has' if code else 'DOES NOT HAVE'} the rule as it is run, and {'has' if figures else 'DOES NOT HAVE'} its figures")
+    has = {True: "has", False: "DOES NOT HAVE"}
+    print(f"review: docs/REVIEW.md {has[code]} the rule as it is run, and {has[figures]} its figures")
     return code and figures and told

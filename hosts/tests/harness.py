@@ -24,7 +24,7 @@ from rules import letters, log, shape  # noqa: E402, F401
 from rules.blake3 import PLAIN, digest, keyed  # noqa: E402
 from rules.log import LONGEST_RECORD, NODE  # noqa: E402, F401
 from rules.plain import plain_root  # noqa: E402, F401
-from rules.shape import nodes_of  # noqa: E402
+from rules.shape import nodes_of  # noqa: E402, F401
 
 # what a program that ends has not given back is of no interest, and looking for it takes seconds on some machines
 os.environ.setdefault("ASAN_OPTIONS", "detect_leaks=0")

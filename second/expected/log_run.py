@@ -1,11 +1,12 @@
 """What log_run must write."""
 from expected.given import run_record
-from grown import grown
-from rules.blake3 import digest
+from grown import grown, hold
+from rules.blake3 import PLAIN, digest
 from rules.log import NODE, append, root
 
 LENGTHS = (0, 1, 31, 32, 33, 63, 64, 65, 200, 1024, 16384)
 BUFFER = NODE * 82
+RECORDS = tuple(run_record(i, LENGTHS[i % len(LENGTHS)]) for i in range(40))
 # Appends once 40 records are in: the size, the record's length, and how much of the buffer is lent.
 APPENDS = (
     (2, 0, 2624), (8589934591, 0, 2624), (78, 16385, 2624), (78, 16384, 2527), (78, 16384, 2528), (79, 0, 2592),
@@ -26,7 +27,7 @@ def lent_append(size, record, buffer, lent):
     front = buffer[:lent]
     answer = append(size, record, front)
     buffer[:lent] = front
-    return "{} {} {}".format(*answer)
+    return answer
 
 
 def state_lines(size, buffer):
@@ -42,23 +43,25 @@ def state_lines(size, buffer):
 
 def run_log(buffer):
     """Forty records of mixed lengths: the lines of each append, and the size at the end."""
-    lines, size, records = [], 0, [run_record(i, LENGTHS[i % len(LENGTHS)]) for i in range(40)]
-    for i, (answer, _) in enumerate(grown(records, buffer=buffer)):
+    lines, size = [], 0
+    for i, (answer, _) in enumerate(grown(RECORDS, buffer=buffer)):
         size = answer.size
-        lines += ["append {}, record of length {}: {} {} {}".format(i, len(records[i]), *answer), *state_lines(size, buffer)]
+        lines += ["append {}, record of length {}: {} {} {}".format(i, len(RECORDS[i]), *answer), *state_lines(size, buffer)]
     return lines, size
 
 
 def expect_log_run():
     """Forty appends; then appends and roots at the edges; then the forty once more over another buffer."""
-    buffer = run_buffer(1)
+    buffer, taken = run_buffer(1), list(RECORDS)
     lines = ["empty:", *state_lines(0, buffer)]
     lines += run_log(buffer)[0]
     for size, length, lent in APPENDS:
         lines.append(f"size {size}, record of length {length}, buffer of length {lent}:")
         lines.append(f"  before {digest(bytes(buffer)).hex()}")
-        said = lent_append(size, run_record(40, length), buffer, lent)
-        lines += [f"  append {said}", f"  after {digest(bytes(buffer)).hex()}"]
+        answer = lent_append(size, run_record(40, length), buffer, lent)
+        taken += [run_record(40, length)] * (answer.number == 0)
+        lines += ["  append {} {} {}".format(*answer), f"  after {digest(bytes(buffer)).hex()}"]
+    hold(answer.size, taken, buffer, PLAIN)
     for size, lent in ROOTS:
         number, top = root(size, buffer[:lent])
         lines.append(f"root of size {size}, buffer of length {lent}: {number} {top.hex()}")

@@ -1,4 +1,4 @@
-"""The plain rule: the root of records without positions (RULES 7.5), and the items of their letters (RULES 9.2). docs/REVIEW.md shows the first two."""
+"""The plain rule: the root of records without positions (RULES 7.5), and the items of their letters (RULES 9.2). docs/REVIEW.md shows the rule."""
 
 
 def largest_power(count):
@@ -18,7 +18,7 @@ def plain_root(records, digest):
 
 
 def plain_items(records, index, digest):
-    """The root of each side that the way to a record leaves, the innermost first; but a left side that is longer than the right stands before all."""
+    """The root of each side that the way to a record leaves, innermost first; but a left side longer than the right before all within the right."""
     if len(records) == 1:
         return []
     left = largest_power(len(records))

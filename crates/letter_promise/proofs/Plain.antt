@@ -11,7 +11,7 @@ use Rattle.shape.specs.Letter.{fill, items}
 use Rattle.nodes.specs.Nodes.{nodesOf, Begins}
 use Rattle.log.proofs.Grown.{nodes-bytes}
 use Rattle.plain_rule.specs.Rule.{Split}
-use Rattle.plain_rule.proofs.Tree.{plain-tree, plain-root, plain-turns}
+use Rattle.plain_rule.proofs.Folded.{plain-tree, plain-root, plain-turns}
 use Rattle.letter.specs.Bytes.{letterBytes, indexIn, recordIn, itemsIn}
 use Rattle.letter.specs.Items.{itemCount, letterTree}
 use Rattle.letter_promise.specs.Terms.{logSize, recordAt, Accepted}

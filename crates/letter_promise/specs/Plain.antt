@@ -21,29 +21,29 @@ use Rattle.letter_promise.specs.Terms.{Log, logSize, recordAt, Accepted,
 abbrev pub plainLetter : (List ℕ → List ℕ) → (rs : List (List ℕ)) → Split rs → ℕ → List ℕ
 plainLetter digest rs s i = letterBytes (logSize rs) i (recordAt rs i) (items digest (plainTree digest s) (turns s i))
 
--- the tree that bytes show: their record's digest where the turns lead to, and beside them their items
+-- the tree that bytes show: their record's digest where the turns to the index lead (`turns-lead`), and beside them their items
 abbrev pub shownTree : (List ℕ → List ℕ) → (rs : List (List ℕ)) → Split rs → List ℕ → Tree
 shownTree digest rs s letter = let w = turns s (indexIn letter) in fill w (digest (recordIn letter)) (itemsIn (length w) letter)
 
 -- ---- the statements, of every log and however the rule splits it, which is one way
 
 module _ (digest : List ℕ → List ℕ) where
-  -- `letter-accepted-by-rule`: whoever has the size and the rule's root accepts the letter for every index, with that index and the log's record there
+  -- `letter-accepted-by-rule`: with the size and the rule's root the letter for every index is accepted, with that index and the log's record there
   abbrev pub LetterAcceptedByRule : Type 0
   LetterAcceptedByRule =
       (rs : List (List ℕ)) → Log rs → (s : Split rs) → (i : ℕ) → i < length rs
       → Accepted digest (logSize rs) (plainRoot digest s) (plainLetter digest rs s i) i (recordAt rs i)
 
-  -- `letter-written-by-rule`: it is what the writer writes from any buffer that begins with the log's nodes, as appends leave it (`appends-build`), with
-  -- room in the output
+  -- `letter-written-by-rule`: it is what the writer writes from any buffer that begins with the log's nodes, as appends leave it (`appends-build`),
+  -- with room in the output
   abbrev pub LetterWrittenByRule : Type 0
   LetterWrittenByRule =
       (rs : List (List ℕ)) → Log rs → (s : Split rs) → (i : ℕ) → i < length rs → (bs : List ℕ) → Begins digest bs rs
       → (out : List ℕ) → length (plainLetter digest rs s i) ≤ length out
       → writeOutcome digest (logSize rs) i (recordAt rs i) bs out ≡ writeDone (plainLetter digest rs s i) out
 
-  -- `accepted-is-ours-by-rule`: bytes that whoever has the size and the rule's root accepts are that letter, or the finder, with such a buffer, gives two
-  -- different strings with one digest, the log's and the bytes' own at one place
+  -- `accepted-is-ours-by-rule`: bytes that are accepted with the size and the rule's root are that letter, or the finder, with such a buffer, gives
+  -- two different strings with one digest, the log's and the bytes' own at one place
   abbrev pub AcceptedIsOursByRule : Type 0
   AcceptedIsOursByRule =
       (rs : List (List ℕ)) → Log rs → (s : Split rs) → (letter : List ℕ) → Bytes letter

@@ -1,8 +1,9 @@
 -- What writer, checker and finder promise together, of every log: the letters that we write are accepted; and bytes that are accepted are our
 -- letter, or the finder gives two different strings with one digest, one hashed in building the log or its root, the other in checking those bytes,
 -- at the same place in the tree.
--- The statements stand at the end, above them and in `Terms` what they say, all over any digest function. They hold of every one whose digests have 32 bytes; the
--- theorems are these for Blake3. They speak of the outcomes that the contracts of the public calls cite, so they hold of the code.
+-- The statements stand at the end; what they speak of stands above them and in `Terms`, all over any digest function. They hold of every one whose
+-- digests have 32 bytes; the theorems are these for Blake3. They speak of the outcomes that the contracts of the public calls cite, so they hold of
+-- the code.
 -- Of nodes that are not the log's, or another record than its own, one thing is claimed: what the finder names does collide (`found-named`).
 use mathlib.Core.Logic.{_≢_}
 use mathlib.Core.Path.{_≡_}

@@ -15,7 +15,7 @@ use Rattle.log.proofs.Grown.{root-of-log}
 use Rattle.log.proofs.Appends.{run-sound}
 use Rattle.plain_rule.specs.Root.{Answers, none, root, RootAnswers, SoundAnswers, RunAnswers, AnswersOnly}
 use Rattle.plain_rule.proofs.Splits.{split-some, split-long}
-use Rattle.plain_rule.proofs.Tree.{plain-root, plain-only}
+use Rattle.plain_rule.proofs.Folded.{plain-root, plain-only}
 
 -- no record: 10, over any buffer
 root-of-none : (digest : List ℕ → List ℕ) (bs : List ℕ) → rootOutcome digest (sizeOf 0) bs ≡ rootRefused 10

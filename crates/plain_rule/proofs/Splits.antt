@@ -1,35 +1,16 @@
--- Every list of records but the empty one is split by the plain rule, and where.
-use mathlib.Core.Path.{_≡_, refl}
+-- Every list of records but the empty one is split by the plain rule, and no other is.
+use mathlib.Core.Path.{_≡_}
 use mathlib.Core.Logic.{by-cases}
 use mathlib.Core.List.{List, [], _∷_}
-use Prim.Native.Nat.{ℕ, zero, suc, _-_, _^_, _≤_, _<_}
+use Prim.Native.Nat.{ℕ, zero, suc, _-_, _^_, _≤_}
 use native.Mathlib.Decide.{decLe}
 use native.Mathlib.Omega.{arith}
 use lib.ListN.{length, length-drop, take, drop}
 use lib.Seq.{length-take-le}
-use lib.Pow.{pow-pos, pow-mono}
+use lib.Pow.{pow-pos}
 use Rattle.shape.proofs.Heights.{height-holds}
-use Rattle.plain_rule.specs.Rule.{LargestPower, Split, one, more, SplitSome}
-
--- ---- the largest power of two below a number: it is below, and the next one is not
-
-pub largest-next : {m n : ℕ} (p : LargestPower m n) → n ≤ 2 ^ suc (p .exponent)
-largest-next {m} {n} p =
-    by-cases (decLe n (2 ^ suc (p .exponent))) (λ a. a)
-    (λ a. absurd (omega (arith, p .largest (suc (p .exponent)) (omega arith), p .power, pow-pos (p .exponent))))
-
-largest-of : (k n : ℕ) → 2 ^ k < n → n ≤ 2 ^ suc k → LargestPower (2 ^ k) n
-largest-of k n p q =
-    record {
-      exponent = k;
-      power = refl;
-      below = omega arith;
-      largest = λ j l.
-          by-cases (decLe j k) (λ a. pow-mono {i = j} {j = k} a)
-          (λ a. absurd (let y : 2 ^ suc k ≤ 2 ^ j = pow-mono {i = suc k} {j = j} (omega arith) in omega arith));
-    }
-
--- ---- there is a split
+use Rattle.plain_rule.specs.Rule.{Split, one, more, SplitSome}
+use Rattle.plain_rule.proofs.Largest.{largest-of}
 
 split-in : (h : ℕ) (rs : List (List ℕ)) → 1 ≤ length rs → length rs ≤ 2 ^ h → Split rs
 split-in zero [] p q = absurd (omega arith)
@@ -47,7 +28,6 @@ split-in (suc h) rs p q =
 pub split-some : SplitSome
 split-some rs p = split-in _ rs p (height-holds (length rs))
 
--- and no other is
 pub split-long : {rs : List (List ℕ)} → Split rs → 1 ≤ length rs
 split-long (one r) = omega arith
 split-long (more rs m p l r) = omega (arith, p .below)

@@ -14,10 +14,11 @@ use Rattle.shape.specs.Folded.{treeIn, tree}
 use Rattle.shape.specs.Letter.{rightward}
 use Rattle.shape.specs.Way.{wayIn, way}
 use Rattle.shape.proofs.Trees.{tree-any, tree-split}
-use Rattle.shape.proofs.Ways.{way-left, way-turn, way-any}
+use Rattle.shape.proofs.Leaves.{leaf-digest}
+use Rattle.shape.proofs.Ways.{way-left, way-turn, way-any, way-leads}
 use Rattle.plain_rule.specs.Rule.{LargestPower, Split, one, more, plainRoot, PlainOnly}
-use Rattle.plain_rule.specs.Tree.{plainTree, turns}
-use Rattle.plain_rule.proofs.Splits.{largest-next}
+use Rattle.plain_rule.specs.Tree.{plainTree, turns, TreeRoot, TurnsLead}
+use Rattle.plain_rule.proofs.Largest.{largest-next}
 
 -- ---- the tree
 
@@ -47,13 +48,14 @@ module _ (digest : List ℕ → List ℕ) where
   plain-tree (one r) = tree-any 0 (digest r ∷ []) (omega arith)
   plain-tree (more rs m p l r) = ap₂ fork (plain-tree l) (plain-tree r) ∙ sym (tree-halves rs m p)
 
-  -- and the root of that tree is the rule's
-  tree-root : {rs : List (List ℕ)} (s : Split rs) → root digest (plainTree digest s) ≡ plainRoot digest s
-  tree-root (one r) = refl
-  tree-root (more rs m p l r) = ap₂ (λ (x y : List ℕ). digest (x ++ y)) (tree-root l) (tree-root r)
+-- and the root of that tree is the rule's
+pub tree-root : TreeRoot
+tree-root digest xs (one r) = refl
+tree-root digest xs (more rs m p l r) =
+    ap₂ (λ (x y : List ℕ). digest (x ++ y)) (tree-root digest (take m rs) l) (tree-root digest (drop m rs) r)
 
-  pub plain-root : {rs : List (List ℕ)} (s : Split rs) → plainRoot digest s ≡ root digest (tree (map digest rs))
-  plain-root s = sym (tree-root s) ∙ ap (root digest) (plain-tree s)
+pub plain-root : (digest : List ℕ → List ℕ) {rs : List (List ℕ)} (s : Split rs) → plainRoot digest s ≡ root digest (tree (map digest rs))
+plain-root digest {rs} s = sym (tree-root digest rs s) ∙ ap (root digest) (plain-tree digest s)
 
 pub plain-only : PlainOnly
 plain-only digest rs s t = plain-root digest s ∙ sym (plain-root digest t)
@@ -91,3 +93,9 @@ plain-turns (more rs m p l r) i =
     rw (le-ltb i m (omega arith), turns)
     (ap (rightward (eqb (length rs) (m + m)) ∷_) (plain-turns r (i - m) ∙ ap (λ (x : ℕ). way x (i - m)) n)
     ∙ sym (way-to-right (length rs) m i p (omega arith))))
+
+-- so they lead to the record
+pub turns-lead : TurnsLead
+turns-lead digest rs s i p =
+    let n : length (map digest rs) ≡ length rs = length-map rs digest in
+    rw (plain-tree digest s, plain-turns s i, ← n, ← leaf-digest digest rs i p) (way-leads (map digest rs) i (omega arith))
