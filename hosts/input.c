@@ -19,10 +19,12 @@ void take_standard_input(void) {
     if (taken++ > 0) wrong_use("standard input cannot be the key and something else too: name a file for one of them");
 }
 
+static _Noreturn void fail_stopped(void) { fail("%s came before all was read: nothing was done", stop_asked()); }
+
 static ssize_t read_whole(int file, uint8_t *bytes, size_t most) {
     for (size_t done = 0;;) {
         if (done == most) return (ssize_t)done;
-        if (wait_for_input(file, -1) == STOP) fail("%s came before all was read: nothing was done", stop_asked());
+        if (wait_for_input(file, -1) == STOP) fail_stopped();
         ssize_t got = read(file, bytes + done, most - done);
         if (got < 0 && (errno == EINTR || errno == EAGAIN)) continue;
         if (got < 0) return -1;
@@ -34,6 +36,7 @@ static ssize_t read_whole(int file, uint8_t *bytes, size_t most) {
 ssize_t try_bytes(const char *path, uint8_t *bytes, size_t most) {
     if (!path) take_standard_input();
     int file = path ? open(path, O_RDONLY | O_CLOEXEC) : STDIN_FILENO;
+    if (file < 0 && errno == EINTR && stop_asked()) fail_stopped();
     if (file < 0) return -1;
     ssize_t length = read_whole(file, bytes, most);
     int error = errno;

@@ -180,16 +180,17 @@ static int add_all(Work *work, const Asked *asked, Store *log, uint64_t kept) {
     return add_files(work, asked->words + asked->before_records, (size_t)files_named(asked));
 }
 
-/* Their size and root, also into the answer: DONE, or REFUSED. */
-static int take_records(const Asked *asked, Store *log, uint64_t kept, Rooted *rooted) {
+/* Their size and root, also into the answer, beside a log of so many: DONE, or REFUSED. */
+static int take_records(const Asked *asked, Store *log, uint64_t logged, Rooted *rooted) {
     Work work = {0};
     plain_begin(&work.plain, mode_taken());
     progress_begin(&work.progress);
     watch_for_stop();
-    int status = add_all(&work, asked, log, kept);
+    int status = add_all(&work, asked, log, logged);
     progress_end();
     if (status != DONE) return status;
     uint32_t number = plain_root(&work.plain, &rooted->size, rooted->top);
+    if (number != KEEPER_DONE && log) fail("there are no records, and so no root was worked out; %s has %" PRIu64 " of them", log->file.path, logged);
     if (number != KEEPER_DONE) note("there are no records, and so there is no root");
     if (number != KEEPER_DONE) return refused("root", number);
     rooted->records = work.plain.count;
@@ -208,8 +209,9 @@ static int tell_other(const Asked *asked, const Store *log, const Rooted *ours, 
                       ", with size %" PRIu64 " and root %s%s", path, then, ours->records, ours->size, ours->digits, logs->records, logs->size,
                       logs->digits, earlier);
     if (are_kept(asked))
-        return failed("%s%s has another root: a record in %s is not the one that was logged. Those there have root %s, and the log has root %s; "
-                      "keeper verify %s --records looks further", path, then, log->records.bytes_path, ours->digits, logs->digits, path);
+        return failed("%s%s has another root: a record in %s, as %s cuts it, is not the one that was logged. Those there have root %s, and the log "
+                      "has root %s; keeper verify %s --records looks further", path, then, log->records.bytes_path, log->records.ends_path,
+                      ours->digits, logs->digits, path);
     return failed("%s%s has another root: a record is not the one that was logged, or they are in another order. These have root %s, and the log "
                   "has root %s", path, then, ours->digits, logs->digits);
 }

@@ -193,7 +193,7 @@ class Others(PlainTest):
         whole, index = kept.read_bytes(), ends.read_bytes()
         kept.write_bytes(flipped(whole, HEAD + 31 + 5))
         records = [RECORDS[2], flipped(RECORDS[3], 5), *RECORDS[4:6]]
-        self.is_other(f"a record in {kept} is not the one that was logged", records, RECORDS[2:6])
+        self.is_other(f"a record in {kept}, as {ends} cuts it, is not the one that was logged", records, RECORDS[2:6])
         self.is_other(f"keeper verify {self.log} --records looks further", records[:3], RECORDS[2:5], "--size", 4)
         self.is_logs(RECORDS[2:3], "--size", 1, at=" at that size")
         kept.write_bytes(whole)
@@ -237,9 +237,10 @@ class Refused(PlainTest):
     def test_no_records(self):
         (self.folder / "empty").mkdir()
         self.make(RECORDS[:2])
-        for log in ((), (self.log,)):
-            self.refused(10, "root", *log, "--records", "--stream")
-            self.refused(10, "root", *log, "--records", "--folder", self.folder / "empty")
+        for source in (("--stream",), ("--folder", self.folder / "empty")):
+            self.refused(10, "root", "--records", *source)
+            self.failed("there are no records, and so no root was worked out; ", "root", self.log, "--records", *source)
+        self.assertIn(f"{self.log} has 2 of them", self.object(2, "root", self.log, "--records", "--stream")["error"])
         self.done("append", self.folder / "new", "--stream", "--keep-records")
         self.refused(10, "root", self.folder / "new", "--records")
         self.refused(10, "root", self.folder / "new", "--records", "--stream", given=stream_of(RECORDS[:2]))
@@ -286,6 +287,17 @@ class Refused(PlainTest):
             out, err = reader.communicate()
         self.assertEqual((reader.returncode, out), (2, b""))
         self.assertIn(b"SIGTERM came before the stream's end: no root was worked out", err)
+
+    def test_signal_before_a_file(self):
+        """Asked to stop while a pipe that nobody writes to is being opened."""
+        os.mkfifo(self.folder / "pipe")
+        words = [KEEPER, "root", "--records", self.file("first", b"record"), self.folder / "pipe"]
+        with subprocess.Popen(words, stdout=subprocess.PIPE, stderr=subprocess.PIPE) as reader:
+            time.sleep(0.5)
+            reader.send_signal(signal.SIGTERM)
+            out, err = reader.communicate()
+        self.assertEqual((reader.returncode, out), (2, b""))
+        self.assertIn(b"SIGTERM came before all was read: nothing was done", err)
 
     def test_files_that_cannot_be_read(self):
         self.make(RECORDS[:2])
