@@ -1,36 +1,26 @@
 -- The tree keeps the specification's rule.
 use mathlib.Core.Path.{_≡_, refl, sym, ap, ap₂, _∙_}
 use mathlib.Core.List.{List}
-use mathlib.Core.Logic.{by-cases}
 use Prim.Native.Nat.{ℕ, suc, _+_, _-_, _*_, _^_, _≤_, _<_}
 use native.Mathlib.Nat.{pow-suc}
-use native.Mathlib.Decide.{decLt}
 use native.Mathlib.Omega.{arith}
 use lib.ListN.{length, take, drop, length-drop}
 use lib.Seq.{length-take-le}
 use lib.Count.{leading-top}
-use lib.Pow.{pow-pos, pow-mono}
+use lib.Pow.{pow-pos}
+use Rattle.powers.specs.Largest.{LargestPowerBelow}
+use Rattle.powers.proofs.Largest.{largest-next, largest-of}
 use Rattle.blake.specs.Blake.{parented, treeOf}
-use Rattle.blake.specs.Rule.{chunks, LargestPowerBelow, TreeRule}
-use Rattle.blake.proofs.Sides.{lt-pow, tree-chunk, tree-enough, tree-split}
+use Rattle.blake.specs.Rule.{chunks, TreeRule}
+use Rattle.powers.proofs.Powers.{lt-pow}
+use Rattle.blake.proofs.Sides.{tree-chunk, tree-enough, tree-split}
 
 -- every number above 1 has a largest power of two below it
 largest-power : (c : ℕ) → 1 < c → (p : ℕ) × LargestPowerBelow c p
 largest-power c h =
     let top = leading-top (c - 1) (c - 1) (omega arith) (lt-pow (c - 1)) in
-    let j = top .0 in
-    let high : c - 1 < 2 ^ suc j = top .3 in (
-      2 ^ j,
-      record {
-        exponent = j;
-        power = refl;
-        below = omega (arith, top .2);
-        largest = λ k l.
-            by-cases (decLt j k)
-            (λ m. let z : 2 ^ suc j ≤ 2 ^ k = pow-mono {i = suc j} {j = k} m in omega arith)
-            (λ m. pow-mono {i = k} {j = j} (omega arith));
-      },
-    )
+    let high : c - 1 < 2 ^ suc (top .0) = top .3 in
+    (2 ^ top .0, largest-of (top .0) c (omega (arith, top .2)) (omega arith))
 
 module _ (bs : List ℕ) (p : ℕ) (rule : LargestPowerBelow (chunks bs) p) where
   -- the left side leaves something over, and not more than itself
@@ -42,13 +32,7 @@ module _ (bs : List ℕ) (p : ℕ) (rule : LargestPowerBelow (chunks bs) p) wher
 
   right-short : length bs ≤ 1024 * (2 * p)
   unfolding chunks
-  right-short =
-      let e : 2 ^ suc (rule .exponent) ≡ 2 ^ rule .exponent * 2 = pow-suc 2 (rule .exponent) in
-      by-cases (decLt (2 ^ suc (rule .exponent)) (chunks bs))
-      (λ l.
-      let m : 2 ^ suc (rule .exponent) ≤ p = rule .largest (suc (rule .exponent)) l in
-      omega (arith, rule .power, pow-pos (rule .exponent)))
-      (λ l. omega (arith, rule .power))
+  right-short = omega (arith, rule .power, largest-next rule)
 
   left-whole : length (take (1024 * p) bs) ≡ 1024 * p
   left-whole = length-take-le (1024 * p) bs (omega (arith, left-short))

@@ -8,12 +8,9 @@ use native.Mathlib.Omega.{arith}
 use lib.ListN.{length, take, drop}
 use lib.Pow.{pow-mono}
 use borrow.Author.Tests.{le-leb, lt-leb}
+use Rattle.powers.proofs.Powers.{lt-pow}
 use Rattle.chunks.specs.Chunks.{chunked}
 use Rattle.blake.specs.Blake.{parented, treed, treeOf}
-
-pub lt-pow : (n : ℕ) → n < 2 ^ n
-lt-pow zero = omega arith
-lt-pow (suc n) = let p : n < 2 ^ n = lt-pow n in omega (arith, pow-suc 2 n)
 
 -- a height of 0 is one chunk
 pub tree-chunk : (h : ℕ) (key : List ℕ) (flag root n : ℕ) (bs : List ℕ) → h ≡ 0 → chunked key flag root n bs ≡ treed h key flag root n bs

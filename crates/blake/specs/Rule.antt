@@ -1,21 +1,15 @@
 -- The specification's rule of the tree, in its own words: the left side of c > 1 chunks has the largest power of two below c.
 use mathlib.Core.Path.{_≡_}
 use mathlib.Core.List.{List}
-use Prim.Native.Nat.{ℕ, _+_, _-_, _*_, _/_, _^_, _≤_, _<_}
+use Prim.Native.Nat.{ℕ, _+_, _-_, _*_, _/_, _<_}
 use lib.ListN.{length, take, drop}
+use Rattle.powers.specs.Largest.{LargestPowerBelow}
 use Rattle.chunks.specs.Chunks.{chunked}
 use Rattle.blake.specs.Blake.{parented, treeOf}
 
 -- how many chunks of 1,024 bytes the input is cut into, the last may be shorter; empty input is one empty chunk
 unfoldable pub chunks : List ℕ → ℕ
 chunks bs = (length bs - 1) / 1024 + 1
-
--- p is the largest power of two below c
-pub record LargestPowerBelow (c p : ℕ) : Type 0 where
-  pub exponent : ℕ
-  pub power : p ≡ 2 ^ exponent
-  pub below : p < c
-  pub largest : (k : ℕ) → 2 ^ k < c → 2 ^ k ≤ p
 
 -- the rule, for any mode, root flag, number of the first chunk and input
 pub record TreeRule (key : List ℕ) (flag root n : ℕ) (bs : List ℕ) : Type 0 where

@@ -9,6 +9,8 @@ use borrow.Author.Tests.{lt-ltb, le-ltb}
 use lib.Dec.{eqb}
 use lib.ListN.{length, length-map, length-drop, take, drop}
 use lib.Seq.{length-take-le}
+use Rattle.powers.specs.Largest.{LargestPowerBelow}
+use Rattle.powers.proofs.Largest.{largest-next}
 use Rattle.shape.specs.Tree.{fork, Turn, left, root}
 use Rattle.shape.specs.Folded.{treeIn, tree}
 use Rattle.shape.specs.Letter.{rightward}
@@ -16,9 +18,8 @@ use Rattle.shape.specs.Way.{wayIn, way}
 use Rattle.shape.proofs.Trees.{tree-any, tree-split}
 use Rattle.shape.proofs.Leaves.{leaf-digest}
 use Rattle.shape.proofs.Ways.{way-left, way-turn, way-any, way-leads}
-use Rattle.plain_rule.specs.Rule.{LargestPower, Split, one, more, plainRoot, PlainOnly}
+use Rattle.plain_rule.specs.Rule.{Split, one, more, plainRoot, PlainOnly}
 use Rattle.plain_rule.specs.Tree.{plainTree, turns, TreeRoot, TurnsLead}
-use Rattle.plain_rule.proofs.Largest.{largest-next}
 
 -- ---- the tree
 
@@ -34,7 +35,7 @@ map-drop f (suc n) (r ∷ rs) = map-drop f n rs
 
 module _ (digest : List ℕ → List ℕ) where
   -- the folded tree is split as the rule says
-  tree-halves : (rs : List (List ℕ)) (m : ℕ) → LargestPower m (length rs)
+  tree-halves : (rs : List (List ℕ)) (m : ℕ) → LargestPowerBelow (length rs) m
       → tree (map digest rs) ≡ fork (tree (map digest (take m rs))) (tree (map digest (drop m rs)))
   tree-halves rs m p =
       let n : length (map digest rs) ≡ length rs = length-map rs digest in
@@ -62,7 +63,7 @@ plain-only digest rs s t = plain-root digest s ∙ sym (plain-root digest t)
 
 -- ---- the turns
 
-module _ (n m i : ℕ) (p : LargestPower m n) where
+module _ (n m i : ℕ) (p : LargestPowerBelow n m) where
   way-to-left : i < m → way n i ≡ left ∷ way m i
   way-to-left c =
       let k = p .exponent in

@@ -8,9 +8,9 @@ use native.Mathlib.Omega.{arith}
 use lib.ListN.{length, length-drop, take, drop}
 use lib.Seq.{length-take-le}
 use lib.Pow.{pow-pos}
+use Rattle.powers.proofs.Largest.{largest-of}
 use Rattle.shape.proofs.Heights.{height-holds}
 use Rattle.plain_rule.specs.Rule.{Split, one, more, SplitSome}
-use Rattle.plain_rule.proofs.Largest.{largest-of}
 
 split-in : (h : ℕ) (rs : List (List ℕ)) → 1 ≤ length rs → length rs ≤ 2 ^ h → Split rs
 split-in zero [] p q = absurd (omega arith)

@@ -1,21 +1,15 @@
--- The plain rule: the root of a list of records, over any digest function. It can be read alone.
+-- The plain rule: the root of a list of records, over any digest function. It can be read alone, with `powers` for the words at its heart.
 -- One record gives its digest; more are split after the largest power of two below their number, and the root is the digest of the two sides' roots.
 use mathlib.Core.Path.{_≡_}
 use mathlib.Core.List.{List, [], _∷_, _++_}
-use Prim.Native.Nat.{ℕ, _^_, _≤_, _<_}
+use Prim.Native.Nat.{ℕ, _≤_}
 use lib.ListN.{length, take, drop}
-
--- m is the largest power of two below n
-pub record LargestPower (m n : ℕ) : Type 0 where
-  pub exponent : ℕ
-  pub power : m ≡ 2 ^ exponent
-  pub below : m < n
-  pub largest : (k : ℕ) → 2 ^ k < n → 2 ^ k ≤ m
+use Rattle.powers.specs.Largest.{LargestPowerBelow}
 
 -- records, split: one alone; or more, after the largest power of two below their number, and each side again
 pub data Split : List (List ℕ) → Type 0 where
   one : (r : List ℕ) → Split (r ∷ [])
-  more : (rs : List (List ℕ)) (m : ℕ) → LargestPower m (length rs) → Split (take m rs) → Split (drop m rs) → Split rs
+  more : (rs : List (List ℕ)) (m : ℕ) → LargestPowerBelow (length rs) m → Split (take m rs) → Split (drop m rs) → Split rs
 
 -- the root of records that are split so
 abbrev pub plainRoot : (List ℕ → List ℕ) → {rs : List (List ℕ)} → Split rs → List ℕ

@@ -12,7 +12,7 @@ use lib.Pow.{pow-mono}
 use lib.Count.{ones, ones-ones}
 use Rattle.shape.specs.Sizes.{sizeOf, trailingOnes, hashCount, heightOf}
 use Rattle.shape.specs.Nodes.{Holds, leftOf, peakwise, perfectRoot, perfect, nodesIn, nodes, parentOf, climb, newNodes}
-use Rattle.shape.proofs.Powers.{lt-pow}
+use Rattle.powers.proofs.Powers.{lt-pow}
 use Rattle.shape.proofs.Heights.{height-above}
 use Rattle.shape.proofs.Trailing.{trailing-top, trailing-full, trailing-pow}
 use Rattle.shape.proofs.Sizes.{size-ones, size-ge}

@@ -9,7 +9,7 @@ use lib.Pow.{pow-pos, pow-mono}
 use lib.Count.{leadingZeros, leading-length}
 use borrow.Author.Tests.{le-leb, lt-leb}
 use Rattle.shape.specs.Sizes.{heightIn, heightOf}
-use Rattle.shape.proofs.Powers.{lt-pow}
+use Rattle.powers.proofs.Powers.{lt-pow}
 
 holds-in : (k n : ℕ) → n ≤ 2 ^ k → n ≤ 2 ^ heightIn k n
 unfolding heightIn

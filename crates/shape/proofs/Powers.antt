@@ -6,10 +6,6 @@ use native.Mathlib.Omega.{arith}
 use lib.Arith.{digits-mod}
 use lib.Pow.{pow-pos, pow-add, pow-lt}
 
-pub lt-pow : (n : ℕ) → n < 2 ^ n
-lt-pow zero = omega arith
-lt-pow (suc n) = omega (arith, lt-pow n)
-
 -- below the width a power of two is itself ..
 pub power-small : (w h : ℕ) → h < w → 2 ^ h % 2 ^ w ≡ 2 ^ h
 power-small w h p = mod-eq-of-lt (pow-lt p)

@@ -8,7 +8,7 @@ use native.Mathlib.Omega.{arith}
 use lib.Pow.{pow-pos, pow-lt}
 use lib.Count.{ones, ones-step, ones-cat, ones-ones, trailingZeros, under}
 use Rattle.shape.specs.Sizes.{trailingIn, trailingOnes}
-use Rattle.shape.proofs.Powers.{lt-pow}
+use Rattle.powers.proofs.Powers.{lt-pow}
 
 -- the ones of a number whose top digit is at h
 pub ones-top : (h m : ℕ) → m < 2 ^ h → ones (2 ^ h + m) ≡ suc (ones m)

@@ -1,0 +1,2 @@
+-- The largest power of two below a number.
+pub mod Largest

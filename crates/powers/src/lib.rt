@@ -1,0 +1,1 @@
+// Definitions and laws only: the largest power of two below a number.
