@@ -11,17 +11,16 @@ use borrow.Author.Tests.{eq-eqb, ne-eqb}
 use lib.Dec.{eqb}
 use lib.ListN.{length, getD, take, drop, length-append, length-drop}
 use lib.Seq.{take-at, drop-at, drop-drop}
-use Rattle.order.specs.Order.{Test, _under_}
 use Rattle.shape.specs.Sizes.{sizeOf, hashCount, leaves}
 use Rattle.shape.proofs.Nodes.{nodes-empty}
 use Rattle.shape.proofs.Sizes.{size-zero, size-mono}
-use Rattle.nodes.specs.Nodes.{nodeIn, nodesOf, Begins}
+use Rattle.nodes.specs.Nodes.{nodesOf, Begins}
 use Rattle.wire.specs.Slices.{joined}
-use Rattle.log.specs.Outcome.{AppendOutcome, appendRefused, appendOrder, putNodes, appendOutcome}
+use Rattle.log.specs.Outcome.{AppendOutcome, appendRefused, appendOrder, appendOutcome}
 use Rattle.log.specs.Appends.{Short, State, step, run, empty, Sound}
 use Rattle.shape.proofs.Counting.{counts-size}
 use Rattle.log.proofs.Grown.{nodes-bytes, append-grows}
-use Rattle.log.proofs.Told.{append-refused, append-pass}
+use Rattle.log.proofs.Told.{told-refused, told-done}
 
 -- one record more, and the one at a place
 snoc-length : (rs : List (List ℕ)) (r : List ℕ) → length (rs ++ (r ∷ [])) ≡ suc (length rs)
@@ -90,24 +89,20 @@ module _ (digest : List ℕ → List ℕ) (digest-32 : (x : List ℕ) → length
         (ap (λ (x : State). x .taken) st, subst (λ (x : State). Sound digest bs x) (sym st) whole)
 
     -- the append, over the buffer as it is
-    abbrev short : Test
-    short = length (s .bytes) under 32 * sizeOf (suc (leaves (s .size)))
-
     abbrev outcome : AppendOutcome
     outcome = appendOutcome digest (s .size) r (s .bytes)
 
     -- refused: all as it was
     sound-left : outcome .number ≢ 0 → Sound digest bs (step digest s r)
-    unfolding appendOutcome
     sound-left z =
-        let e = append-refused digest (nodeIn (s .bytes)) short (putNodes (s .size) (s .bytes)) (s .size) r (s .bytes) z in
+        let e = told-refused digest (s .size) r (s .bytes) z in
         subst (λ (x : State). Sound digest bs x) (sym (step-left s r (appendRefused (s .size) (s .bytes) (outcome .number)) e z)) g
 
     -- done: the record was within the limits, and there was room
     sound-done : outcome .number ≡ 0 → Sound digest bs (step digest s r)
-    unfolding appendOutcome appendOrder
+    unfolding appendOrder
     sound-done z =
-        let a = append-pass digest (nodeIn (s .bytes)) short (putNodes (s .size) (s .bytes)) (s .size) r (s .bytes) z .0 in
+        let a = told-done digest (s .size) r (s .bytes) z .0 in
         let k = counts-size (length (s .taken)) (g .few) in
         let v : leaves (s .size) ≡ length (s .taken) = ap leaves (g .size) ∙ k .value in
         let w : 32 * sizeOf (suc (length (s .taken))) ≤ length (s .bytes) =

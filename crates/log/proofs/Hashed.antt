@@ -11,7 +11,6 @@ use borrow.Author.Needs.{needs}
 use borrow.Author.Tests.{eq-eqb, ne-eqb}
 use lib.ListN.{length, length-map}
 use lib.Seq.{append-snoc}
-use Rattle.order.specs.Order.{Test, _under_}
 use Rattle.order.proofs.Laws.{refuses}
 use Rattle.wire.specs.Slices.{splice, joined}
 use Rattle.shape.specs.Sizes.{sizeOf, countAnswer, leaves}
@@ -26,11 +25,11 @@ use Rattle.shape.proofs.Prune.{inputs-placed}
 use Rattle.shape.proofs.Counting.{counts-size}
 use Rattle.shape.proofs.Hashed.{within, within-none, new-hashed, append-hashed, root-hashed}
 use Rattle.nodes.specs.Nodes.{nodeIn}
-use Rattle.log.specs.Outcome.{AppendOutcome, appendRefused, appendDone, putNodes, appendOutcome}
+use Rattle.log.specs.Outcome.{AppendOutcome, appendDone, appendOutcome}
 use Rattle.log.specs.Outcome.{RootOutcome, rootRefused, rootOrder, rootOver, rootOutcome}
 use Rattle.log.specs.Appends.{State, step, run, empty, Sound}
 use Rattle.log.specs.Hashed.{appendHashed, rootHashed, runHashed, builtHashed}
-use Rattle.log.proofs.Told.{append-refused, append-pass}
+use Rattle.log.proofs.Told.{told-refused, told-done}
 use Rattle.log.proofs.Grown.{begins-hold, root-of-log}
 use Rattle.log.proofs.Appends.{step-taken, step-left, step-sound, empty-sound, run-sound}
 
@@ -58,19 +57,8 @@ module _ (digest : List ℕ → List ℕ) where
   hashed-left size rec bs z = rw (ne-eqb (appendOutcome digest size rec bs .number) 0 z, appendHashed)
 
   module _ (size : ℕ) (rec bs : List ℕ) where
-    abbrev short : Test
-    short = length bs under 32 * sizeOf (suc (leaves size))
-
     abbrev outcome : AppendOutcome
     outcome = appendOutcome digest size rec bs
-
-    done-is : outcome .number ≡ 0 → outcome ≡ appendDone digest (nodeIn bs) (putNodes size bs) size rec
-    unfolding appendOutcome
-    done-is z = append-pass digest (nodeIn bs) short (putNodes size bs) size rec bs z .1
-
-    left-is : outcome .number ≢ 0 → outcome ≡ appendRefused size bs (outcome .number)
-    unfolding appendOutcome
-    left-is z = append-refused digest (nodeIn bs) short (putNodes size bs) size rec bs z
 
     new-is : outcome .number ≡ 0 → newNodes digest (nodeIn bs) (leaves size) (digest rec) ≡ map digest (appendHashed digest size rec bs)
     new-is z = rw (hashed-done size rec bs z) (new-hashed digest (nodeIn bs) (leaves size) (digest rec))
@@ -81,17 +69,17 @@ module _ (digest : List ℕ → List ℕ) where
     append-counts =
         by-cases (ℕ-discrete (outcome .number) 0)
         (λ z.
-        ap (λ (o : AppendOutcome). o .hashes) (done-is z)
+        ap (λ (o : AppendOutcome). o .hashes) (told-done digest size rec bs z .1)
         ∙ sym (new-length digest (nodeIn bs) (leaves size) (digest rec))
         ∙ ap length (new-is z)
         ∙ length-map (appendHashed digest size rec bs) digest)
-        (λ z. ap (λ (o : AppendOutcome). o .hashes) (left-is z) ∙ sym (ap length (hashed-left size rec bs z)))
+        (λ z. ap (λ (o : AppendOutcome). o .hashes) (told-refused digest size rec bs z) ∙ sym (ap length (hashed-left size rec bs z)))
 
     -- and, where it is done, writes their digests
     pub append-writes : outcome .number ≡ 0 → outcome .bytes ≡ splice (32 * size) (joined (map digest (appendHashed digest size rec bs))) bs
     unfolding appendDone
     append-writes z =
-        ap (λ (o : AppendOutcome). o .bytes) (done-is z) ∙ ap (λ (xs : List (List ℕ)). splice (32 * size) (joined xs) bs) (new-is z)
+        ap (λ (o : AppendOutcome). o .bytes) (told-done digest size rec bs z .1) ∙ ap (λ (xs : List (List ℕ)). splice (32 * size) (joined xs) bs) (new-is z)
 
   root-done : (size : ℕ) (bs : List ℕ) → rootOutcome digest size bs .number ≡ 0
       → rootHashed digest size bs ≡ foldHashed digest (nodeIn bs) (peaks (leaves size))

@@ -3,7 +3,7 @@ mod Climbs
 mod Writing
 mod Done
 pub mod Only
-mod Told
+pub mod Told
 pub mod Grown
 pub mod Appends
 pub mod Hashed

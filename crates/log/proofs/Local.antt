@@ -1,101 +1,98 @@
 -- Bytes beyond the size mean nothing, over any digest function: what an append does depends on the buffer's length and on its bytes below 32 × size
--- only, and the root on these bytes alone.
+-- only, where digests have 32 bytes, and the root on these bytes alone.
 use mathlib.Core.Path.{_≡_, sym, ap, _∙_}
-use mathlib.Core.Logic.{by-cases, _≢_}
+use mathlib.Core.Logic.{by-cases}
 use mathlib.Core.List.{List, [], _∷_}
-use Prim.Native.Nat.{ℕ, suc, _*_, _<_}
+use Prim.Native.Nat.{ℕ, suc, _+_, _*_, _<_}
 use native.Mathlib.Decide.{ℕ-discrete}
 use native.Mathlib.Omega.{arith}
 use lib.ListN.{length, take}
 use Rattle.order.specs.Order.{Test, _if_, _is_, _under_, verdict, firstNumber}
-use Rattle.order.proofs.Laws.{Passes, verdict-done, verdict-test}
+use Rattle.order.proofs.Laws.{verdict-done, verdict-test}
 use Rattle.wire.specs.Slices.{splice, joined}
 use Rattle.wire.proofs.Splices.{splice-none}
-use Rattle.shape.specs.Sizes.{sizeOf, countAnswer, leaves}
+use Rattle.wire.proofs.Joined.{joined-length}
+use Rattle.shape.specs.Sizes.{sizeOf, countAnswer, hashCount, leaves}
 use Rattle.shape.specs.Nodes.{newNodes}
-use Rattle.shape.proofs.Appends.{new-local}
+use Rattle.shape.proofs.Sizes.{size-suc}
+use Rattle.shape.proofs.Appends.{new-local, new-length}
 use Rattle.shape.proofs.Inside.{peaks-local}
 use Rattle.shape.proofs.Counting.{counts-known}
 use Rattle.nodes.specs.Nodes.{nodeIn}
 use Rattle.nodes.proofs.Local.{node-local, short-local}
-use Rattle.log.specs.Outcome.{AppendOutcome, appendRefused, appendOrder, appendDone, putNodes, appendOutcome}
+use Rattle.log.specs.Outcome.{AppendOutcome, appendRefused, appendOrder, appendDone, appendOutcome}
 use Rattle.log.specs.Outcome.{rootRefused, rootOrder, rootDone, rootOver, rootOutcome}
-use Rattle.log.proofs.Told.{append-number, append-refused, append-pass}
+use Rattle.log.proofs.Climbs.{new-sized}
+use Rattle.log.proofs.Told.{told-number, told-refused, told-done}
 
 -- ---- append
 
--- two appends that answer alike and write the same bytes
-pub record Alike (digest : List ℕ → List ℕ) (size : ℕ) (rec bs cs : List ℕ) : Type 0 where
-  pub number : appendOutcome digest size rec bs .number ≡ appendOutcome digest size rec cs .number
-  pub grown : appendOutcome digest size rec bs .size ≡ appendOutcome digest size rec cs .size
-  pub hashes : appendOutcome digest size rec bs .hashes ≡ appendOutcome digest size rec cs .hashes
+-- two outcomes that answer alike, over two buffers into which the same bytes are written from byte 32 × size on
+pub record Alike (size : ℕ) (bs cs : List ℕ) (o p : AppendOutcome) : Type 0 where
+  pub number : o .number ≡ p .number
+  pub grown : o .size ≡ p .size
+  pub hashes : o .hashes ≡ p .hashes
   pub new : List ℕ
-  pub one : appendOutcome digest size rec bs .bytes ≡ splice (32 * size) new bs
-  pub other : appendOutcome digest size rec cs .bytes ≡ splice (32 * size) new cs
+  pub long : 32 * size + length new ≡ 32 * o .size
+  pub one : o .bytes ≡ splice (32 * size) new bs
+  pub other : p .bytes ≡ splice (32 * size) new cs
 
-module _ (digest : List ℕ → List ℕ) (size : ℕ) (rec bs cs : List ℕ) (l : length bs ≡ length cs)
+-- two refusals: nothing is written
+pub alike-refused : (size : ℕ) (bs cs : List ℕ) (o p : AppendOutcome) → o .number ≡ p .number
+    → o ≡ appendRefused size bs (o .number) → p ≡ appendRefused size cs (p .number) → Alike size bs cs o p
+alike-refused size bs cs o p n e f =
+    record {
+      number = n;
+      grown = ap (λ (x : AppendOutcome). x .size) e ∙ sym (ap (λ (x : AppendOutcome). x .size) f);
+      hashes = ap (λ (x : AppendOutcome). x .hashes) e ∙ sym (ap (λ (x : AppendOutcome). x .hashes) f);
+      new = [];
+      long = omega (arith, ap (λ (x : AppendOutcome). x .size) e);
+      one = ap (λ (x : AppendOutcome). x .bytes) e ∙ sym (splice-none (32 * size) bs);
+      other = ap (λ (x : AppendOutcome). x .bytes) f ∙ sym (splice-none (32 * size) cs);
+    }
+
+module _ (digest : List ℕ → List ℕ) (digest-32 : (x : List ℕ) → length (digest x) ≡ 32) (size : ℕ) (rec bs cs : List ℕ) (l : length bs ≡ length cs)
     (same : take (32 * size) bs ≡ take (32 * size) cs) where
   abbrev outcome : List ℕ → AppendOutcome
   outcome xs = appendOutcome digest size rec xs
 
-  abbrev short : List ℕ → Test
-  short xs = length xs under 32 * sizeOf (suc (leaves size))
-
-  -- what the number tells, of the nodes in a buffer
-  number-first : (xs : List ℕ) → outcome xs .number ≡ firstNumber (appendOrder (short xs) size rec)
-  unfolding appendOutcome
-  number-first xs = append-number digest (nodeIn xs) (short xs) (putNodes size xs) size rec xs
-
-  refused : (xs : List ℕ) → outcome xs .number ≢ 0 → outcome xs ≡ appendRefused size xs (outcome xs .number)
-  unfolding appendOutcome
-  refused xs z = append-refused digest (nodeIn xs) (short xs) (putNodes size xs) size rec xs z
-
-  passed : (xs : List ℕ) → outcome xs .number ≡ 0
-      → Passes (appendOrder (short xs) size rec) × (outcome xs ≡ appendDone digest (nodeIn xs) (putNodes size xs) size rec)
-  unfolding appendOutcome
-  passed xs z = append-pass digest (nodeIn xs) (short xs) (putNodes size xs) size rec xs z
-
   one-number : outcome bs .number ≡ outcome cs .number
   one-number =
-      number-first bs ∙ ap (λ (k : ℕ). firstNumber (appendOrder (k under 32 * sizeOf (suc (leaves size))) size rec)) l ∙ sym (number-first cs)
-
-  -- refused: nothing is written
-  left-alike : outcome bs .number ≢ 0 → Alike digest size rec bs cs
-  left-alike z =
-      let p = refused bs z in
-      let q = refused cs (λ h. z (one-number ∙ h)) in
-      record {
-        number = one-number;
-        grown = ap (λ (x : AppendOutcome). x .size) p ∙ sym (ap (λ (x : AppendOutcome). x .size) q);
-        hashes = ap (λ (x : AppendOutcome). x .hashes) p ∙ sym (ap (λ (x : AppendOutcome). x .hashes) q);
-        new = [];
-        one = ap (λ (x : AppendOutcome). x .bytes) p ∙ sym (splice-none (32 * size) bs);
-        other = ap (λ (x : AppendOutcome). x .bytes) q ∙ sym (splice-none (32 * size) cs);
-      }
+      told-number digest size rec bs
+      ∙ ap (λ (k : ℕ). firstNumber (appendOrder (k under 32 * sizeOf (suc (leaves size))) size rec)) l
+      ∙ sym (told-number digest size rec cs)
 
   -- done: the same new nodes
-  done-alike : outcome bs .number ≡ 0 → Alike digest size rec bs cs
+  done-alike : outcome bs .number ≡ 0 → Alike size bs cs (outcome bs) (outcome cs)
   unfolding appendOrder appendDone
   done-alike z =
-      let p = passed bs z .1 in
-      let q = passed cs (sym one-number ∙ z) .1 in
-      let t = passed bs z .0 in
-      let k = counts-known size (t .0) in
+      let p = told-done digest size rec bs z .1 in
+      let q = told-done digest size rec cs (sym one-number ∙ z) .1 in
+      let k = counts-known size (told-done digest size rec bs z .0 .0) in
       let n = leaves size in
-      let w : newNodes digest (nodeIn bs) n (digest rec) ≡ newNodes digest (nodeIn cs) n (digest rec) =
+      let ns = newNodes digest (nodeIn bs) n (digest rec) in
+      let b : length (joined ns) ≡ 32 * hashCount n =
+      joined-length ns (new-sized digest digest-32 (nodeIn bs) n (digest rec) (digest-32 rec))
+      ∙ ap (λ (x : ℕ). 32 * x) (new-length digest (nodeIn bs) n (digest rec)) in
+      let w : ns ≡ newNodes digest (nodeIn cs) n (digest rec) =
       new-local digest (nodeIn bs) (nodeIn cs) n (digest rec) (λ i h. node-local size bs cs same i (omega (arith, k .is))) in
       record {
         number = one-number;
         grown = ap (λ (x : AppendOutcome). x .size) p ∙ sym (ap (λ (x : AppendOutcome). x .size) q);
         hashes = ap (λ (x : AppendOutcome). x .hashes) p ∙ sym (ap (λ (x : AppendOutcome). x .hashes) q);
-        new = joined (newNodes digest (nodeIn bs) n (digest rec));
+        new = joined ns;
+        long = omega (arith, size-suc n, k .is, ap (λ (x : AppendOutcome). x .size) p);
         one = ap (λ (x : AppendOutcome). x .bytes) p;
         other = ap (λ (x : AppendOutcome). x .bytes) q ∙ ap (λ (x : List (List ℕ)). splice (32 * size) (joined x) cs) (sym w);
       }
 
   -- two buffers of one length that agree below 32 × size
-  pub append-local : Alike digest size rec bs cs
-  append-local = by-cases (ℕ-discrete (outcome bs .number) 0) done-alike left-alike
+  pub append-local : Alike size bs cs (outcome bs) (outcome cs)
+  append-local =
+      by-cases (ℕ-discrete (outcome bs .number) 0) done-alike
+      (λ z.
+      alike-refused size bs cs (outcome bs) (outcome cs) one-number (told-refused digest size rec bs z)
+      (told-refused digest size rec cs (λ h. z (one-number ∙ h))))
 
 -- ---- root
 

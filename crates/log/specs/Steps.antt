@@ -1,4 +1,4 @@
--- What the code's own steps are called, which no public contract cites: a refusal, the left children that an append reads, the nodes that it writes.
+-- What the code's own steps are called: a refusal, the left children that an append reads, the nodes that it writes.
 use mathlib.Core.Path.{_≡_}
 use mathlib.Core.List.{List, [], _∷_, _++_}
 use Prim.Native.Nat.{ℕ, zero, suc, _+_, _*_, _<_}

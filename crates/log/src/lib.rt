@@ -22,8 +22,8 @@ pub struct Rooted {
     pub root: Digest,
 }
 
-// A refused append: the size it was given.
-fn append_refused(number: u32, size: u64) -> Appended
+// A refused append, of one record or of many: the size it was given.
+pub fn append_refused(number: u32, size: u64) -> Appended
     ensures { λ r. ⌜ r ≡ refusedAppend number size ⌝ }
 {
     Appended {

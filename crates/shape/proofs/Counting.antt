@@ -1,13 +1,16 @@
--- What the leaf count of a size tells, and what an append then finds.
+-- What the leaf count of a size and the size of a leaf count tell, and what an append then finds.
 use mathlib.Core.Path.{_≡_, sym, ap, _∙_}
-use mathlib.Core.Logic.{inl, inr}
+use mathlib.Core.Logic.{inl, inr, by-cases}
 use Prim.Native.Nat.{ℕ, suc, _+_, _^_, _≤_, _<_}
+use native.Mathlib.Decide.{decLe}
 use native.Mathlib.Omega.{arith}
 use Rattle.shape.specs.declared.Counted.{Counted}
 use Rattle.shape.specs.declared.Counted.the-variants.{Leaves, NoCount}
-use Rattle.shape.specs.Answers.{Answer, done, counted}
-use Rattle.shape.specs.Sizes.{sizeOf, countAnswer, trailingOnes, leaves}
-use Rattle.shape.proofs.Sizes.{size-suc, size-ge, size-le}
+use Rattle.shape.specs.declared.Sized.{Sized}
+use Rattle.shape.specs.declared.Sized.the-variants.{Size, TooMany}
+use Rattle.shape.specs.Answers.{Answer, done, sized, counted}
+use Rattle.shape.specs.Sizes.{sizeOf, sizeAnswer, countAnswer, trailingOnes, leaves}
+use Rattle.shape.proofs.Sizes.{size-suc, size-ge, size-le, size-answer, size-refused}
 use Rattle.shape.proofs.Counts.{count-size, count-cases, count-done}
 use Rattle.shape.proofs.Trailing.{trailing-pow, trailing-most}
 
@@ -43,6 +46,19 @@ counts-leaves {r} {size} {n} e l = counts-done size n (sym e ∙ ap counted l)
 
 pub counts-none : {r : Counted} (size : ℕ) → counted r ≡ countAnswer size → r ≡ NoCount → countAnswer size .number ≡ 1
 counts-none size e l = ap (λ (a : Answer). a .number) (sym e ∙ ap counted l)
+
+-- the other way round: the size of a leaf count, and that there is none
+module _ {r : Sized} (n : ℕ) (e : sized r ≡ sizeAnswer n) where
+  pub size-known : {v : ℕ} → r ≡ Size v → (n ≤ 2 ^ 32) × (v ≡ sizeOf n)
+  size-known f =
+      by-cases (decLe n (2 ^ 32)) (λ h. (h, ap (λ (a : Answer). a .value) (sym (ap sized f) ∙ e ∙ size-answer n h)))
+      (λ h. absurd (omega (arith, ap (λ (a : Answer). a .number) (sym (ap sized f) ∙ e ∙ size-refused n (omega arith)))))
+
+  pub size-none : r ≡ TooMany → 2 ^ 32 < n
+  size-none f =
+      by-cases (decLe n (2 ^ 32))
+      (λ h. absurd (omega (arith, ap (λ (a : Answer). a .number) (sym (ap sized f) ∙ e ∙ size-answer n h))))
+      (λ h. omega arith)
 
 module _ {size n m : ℕ} (k : Counts size n) (e : m ≡ trailingOnes n) where
   pub grown-size : sizeOf (suc (leaves size)) ≡ size + (1 + m)

@@ -30,6 +30,11 @@ module _ (at : ℕ) (xs d : List ℕ) (h : at + length xs ≤ length d) where
       let k : n ≤ length (take at d) = rw (length-take-le at d (omega arith)) l in
       rw (take-append-le n (take at d ++ xs), take-append-le n (take at d), take-take)
 
+  -- with it
+  pub splice-through : take (at + length xs) (splice at xs d) ≡ take at d ++ xs
+  unfolding splice
+  splice-through = take-at (take at d ++ xs) (drop (at + length xs) d) (at + length xs) head-length
+
   -- what stands after it
   pub splice-after : drop (at + length xs) (splice at xs d) ≡ drop (at + length xs) d
   unfolding splice
