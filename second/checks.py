@@ -3,6 +3,7 @@ import zlib
 from collections import Counter
 from pathlib import Path
 
+from batches import check_batches
 from expected.given import KEYS, LEAGUES, counting_bytes, flips_of, letter_in, log_of, record_of, run_record
 from grown import grown
 from page import check_page
@@ -225,6 +226,7 @@ def check():
         good &= check_logs(70, name)
         good &= check_refusals(name)
         good &= check_letters(leaves, name)
+    good &= check_batches()
     good &= check_leagues(4)
     good &= check_finder(9)
     good &= check_orders()

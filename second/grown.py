@@ -1,6 +1,7 @@
 """Logs that appends make. The logs of the tests are made here, and the root of each is held to the plain rule."""
 import functools
 
+from rules.batch import append_many
 from rules.blake3 import PLAIN
 from rules.log import NODE, append, root
 from rules.plain import plain_root
@@ -30,6 +31,18 @@ def grown(records, digest=PLAIN, buffer=None):
     buffer = bytearray(NODE * nodes_of(len(records))) if buffer is None else buffer
     for answer, taken in appends(records, once, buffer):
         hold(answer.size, taken, buffer, once)
+        yield answer, buffer
+
+
+def batched(batches, digest=PLAIN, buffer=None):
+    """Lists of records, each appended in one call, refused ones among them: after each the answer and the buffer, whose root is held to the rule."""
+    once = functools.lru_cache(maxsize=None)(digest)
+    buffer = bytearray(NODE * nodes_of(sum(map(len, batches)))) if buffer is None else buffer
+    size, taken = 0, []
+    for records in batches:
+        answer = append_many(size, b"".join(records), [len(record) for record in records], buffer, once)
+        size, taken = answer.size, taken + list(records) * (answer.number == 0)
+        hold(size, taken, buffer, once)
         yield answer, buffer
 
 

@@ -5,6 +5,7 @@ from pathlib import Path
 from expected.given import KEYS, LEAGUES, counting_bytes
 from grown import grown
 from portable.orders import FROM_7, ORDERS
+from rules.batch import append_many
 from rules.blake3 import KEY, PLAIN, Mode, digest, keyed, words_of
 from rules.letters import PANEL_HEAD, PANEL_MOST, WHOLE_LETTER, check_letter, keyed_panel, letter_bytes, letter_of, panel
 from rules.log import LONGEST_RECORD, NODE, append, node, root
@@ -18,6 +19,14 @@ PAGE = TOP / "docs" / "RULES.md"
 CITING = ("second/**/*.py", "outside/**/*.[pc]*", "vectors/*", "include/*.h", "hosts/*.[chp]*", "README.md", "docs/*.md", "crates/**/*.md",
           "crates/**/*.rt", "crates/**/*.antt")
 RECORDS = (b"goal", b"no goal", b"corner")
+# Section 7.7: the size, the joined records, the lengths, the bytes of the buffer. The longer record is zeros.
+FULL, LONGER = nodes_of(MOST_LEAVES), bytes(LONGEST_RECORD + 1)
+BATCHES = (
+    (0, RECORDS, (4, 7, 6), 128), (1, RECORDS[1:], (7, 6), 128), (0, (), (), 0), (FULL, (), (), 0), (FULL - 1, (), (), 0),
+    (2, RECORDS, (4, 7), 128), (FULL, RECORDS, (4, 7), 128), (0, RECORDS, (4, 7, 5), 128), (0, RECORDS, (2**32 - 1, 18), 128),
+    (FULL, RECORDS, (4, 7, 6), 128), (0, RECORDS, (4, 7, 6), 127), (0, (b"goal", LONGER), (4, len(LONGER)), 31),
+    (0, (b"goal", LONGER), (4, len(LONGER)), 32), (0, (LONGER, b"goal"), (len(LONGER), 4), 31),
+)
 # Section 9.3: the name of an example, the leaf count, the index.
 ITEMS = (("", 1, 0), ("", 2, 1), ("", 3, 2), ("M14", 5, 2), ("M15", 7, 4), ("M16", 7, 0), ("", 8, 3), ("", 11, 9))
 
@@ -67,11 +76,35 @@ def item_rows():
         yield f"| {name + ' ' if name else ''}| {leaves} | {index} | {', '.join(said) or 'none'} |"
 
 
+def batch_done(batch, mode=PLAIN):
+    """A batch of section 7.7 in a mode, over a buffer that begins with the first node of section 7.6: the answer, and the buffer."""
+    size, records, lengths, room = batch
+    buffer = bytearray(small_log(mode)[0][:NODE].ljust(room, b"\x3c")[:room])
+    return append_many(size, b"".join(records), lengths, buffer, mode), bytes(buffer)
+
+
+def joined_said(records):
+    """Joined records as the page has them."""
+    if LONGER in records:
+        return ", ".join(f"{len(record):,} bytes" if record == LONGER else f"`{record.decode()}`" for record in records)
+    return f"`{b''.join(records).decode()}`" if records else "none"
+
+
+def batch_rows():
+    """The rows of section 7.7."""
+    for batch in BATCHES:
+        (size, records, lengths, room), (answer, _) = batch, batch_done(batch)
+        said = f"done, size {answer.size:,}, count {answer.hashes}" if answer.number == 0 else f"number {answer.number}"
+        yield f"| {size:,} | {joined_said(records)} | {with_comma(lengths) or 'none'} | {room} | {said} |"
+
+
 def order_rows():
     """Rows of section 3."""
     yield f"| mode of a key | {keyed(b'').number} |"
     for name, call in (("append", "append"), ("root", "root"), ("letter, written", "letter_write")):
         yield f"| {name} | {', '.join(ORDERS[call])} |"
+    if [entry.split()[0] for entry in ORDERS["append_many"][:5]] == ["1", "16", *ORDERS["append"][1:]]:
+        yield f"| append of many | 1, 16, then of the first record that has any: {', '.join(ORDERS['append'][1:])} |"
     yield f"| **from 7** | {', '.join(FROM_7)} |"
     if ORDERS["letter_check"] == ("1", "12", *FROM_7):
         yield "| letter, checked | 1, 12, then **from 7** |"
@@ -84,6 +117,8 @@ def sentences():
     answers = small_log()[1]
     longest = letter_bytes(0, 0, bytes(LONGEST_RECORD), [bytes(NODE)] * 32)
     yield f"sizes {with_comma(answer.size for answer in answers)}, hash counts {with_comma(answer.hashes for answer in answers)}."
+    yield f"The records of 7.6, joined, are the {len(b''.join(RECORDS))} bytes `{b''.join(RECORDS).decode()}`, and their lengths are"
+    yield f"4,294,967,295 and 18 then pass for {(2**32 - 1 + 18) % 2**32} (7.7)."
     yield f"M13: at n = 7 the hash count is {append(nodes_of(7), b'', bytearray(NODE * nodes_of(8))).hashes}:"
     yield f"| letter | {len(WHOLE_LETTER)} bytes | {len(longest):,} bytes (20 + {LONGEST_RECORD:,} + 32 × {NODE}) |"
     yield (f"Eleven records are split after {largest_power(11)}, and the three that are left after {largest_power(11 - largest_power(11))};"
@@ -132,6 +167,12 @@ def keyed_as_said():
             and cut == [24] * 32 + [12] * 40 + [7] * 91 + [0] and {keyed_panel(one + whole[KEY:]) for one in changed} == {9})
 
 
+def batches_as_said():
+    """Whether the batches of section 7.7 have the same numbers under a key, and the nodes of section 7.6 where they are done and write any."""
+    keyed_too = all(batch_done(batch)[0] == batch_done(batch, LEAGUES[0])[0] for batch in BATCHES)
+    return keyed_too and all(batch_done(batch, mode)[1] == small_log(mode)[0] for batch in BATCHES[:2] for mode in (PLAIN, LEAGUES[0]))
+
+
 def as_said():
     """Whether the examples get the numbers that the page gives them."""
     nodes, _ = small_log()
@@ -148,7 +189,8 @@ def examples_stand(page):
     """Look for each example in the page, and for digests in it that are none."""
     lines, squeezed = " ".join(page.split()), "".join(page.split())
     made = [data.hex() for data in example_bytes()]
-    wanted = [(text, lines) for text in (*order_rows(), *shape_rows(), *item_rows(), *sentences())] + [(text, squeezed) for text in made]
+    rows = (*order_rows(), *shape_rows(), *batch_rows(), *item_rows())
+    wanted = [(text, lines) for text in (*rows, *sentences())] + [(text, squeezed) for text in made]
     missing = [text for text, where in wanted if text not in where]
     foreign = [found for found in re.findall("[0-9a-f]{64}", page) if not any(found in one for one in made)]
     for text in missing:
@@ -179,7 +221,7 @@ def citations_stand(page):
 
 def check_page():
     """Its examples, the numbers that it gives them, and what cites it."""
-    page, told = PAGE.read_text(), as_said() and keyed_as_said()
+    page, told = PAGE.read_text(), as_said() and keyed_as_said() and batches_as_said()
     if not told:
         print("rules: an example of docs/RULES.md has another number than the page says")
     good = examples_stand(page)

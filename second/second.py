@@ -16,6 +16,7 @@ import sys
 from pathlib import Path
 
 from checks import check
+from expected.batch_run import expect_batch_run
 from expected.digest_input import expect_digest_input
 from expected.digest_run import expect_digest_run
 from expected.finder_run import expect_finder_run
@@ -29,6 +30,7 @@ from portable.files import verify_vectors, write_vectors
 
 TOP = Path(__file__).resolve().parent.parent
 EXPECTED = {
+    "batch_run": expect_batch_run,
     "digest_input": expect_digest_input,
     "digest_run": expect_digest_run,
     "finder_run": expect_finder_run,

@@ -10,14 +10,16 @@ use Rattle.shape.specs.Folded.{tree}
 use Rattle.nodes.specs.Nodes.{nodeIn}
 use Rattle.nodes.proofs.Joined.{node-length}
 use Rattle.log.specs.Outcome.{RootOutcome, rootOutcome}
+use Rattle.log.specs.Appends.{State, Sound}
 use Rattle.log.proofs.Grown.{root-of-log}
 use Rattle.log.proofs.Appends.{run-sound, run-all}
 use Rattle.log.proofs.Hashed.{built-hashed}
+use Rattle.batch_laws.proofs.Calls.{calls-sound}
 use Rattle.letter_finder.specs.Outcome.{findOutcome}
 use Rattle.letter_promise.specs.Terms.{logSize, recordAt}
 use Rattle.letter_promise.specs.Promise.{EveryLetterAccepted, EveryAcceptedEnds, EveryOursSame, EverySameOurs}
 use Rattle.letter_promise.specs.Promise.{OfEveryLog, LetterAccepted, AcceptedIsOurs, OursIsSame, SameIsOurs, FoundNamed}
-use Rattle.letter_promise.specs.Promise.{OneLetter, AppendsBuild, PlacesBuilt}
+use Rattle.letter_promise.specs.Promise.{OneLetter, Built, AppendsBuild, CallsBuild, PlacesBuilt}
 use Rattle.letter_promise.proofs.Kept.{Kept, kept}
 use Rattle.letter_promise.proofs.Ours.{letter-own}
 use Rattle.letter_promise.proofs.Checked.{letters-accepted}
@@ -61,11 +63,15 @@ module _ (digest : List ℕ → List ℕ) (digest-32 : (x : List ℕ) → length
   one-letter-over rs bs cs g b c i p =
       letter-own (kept digest digest-32 rs bs g b) i p (recordAt rs i) ∙ sym (letter-own (kept digest digest-32 rs cs g c) i p (recordAt rs i))
 
-  -- any run of appends to an empty log, refused ones among them, that took a record leaves such a log, its size, and such a buffer
+  sound-built : (bs : List ℕ) (s : State) → Sound digest bs s → Built digest s
+  sound-built bs s g some = (record { some = some; few = g .few; short = g .short }, g .begins, g .size)
+
+  -- any run of appends to an empty log, refused ones among them, leaves such a log, its size, and such a buffer; so does any run of appends and batches
   pub appends-build-over : AppendsBuild digest
-  appends-build-over bs rs some =
-      let s = run-sound digest digest-32 bs rs in
-      (record { some = some; few = s .few; short = s .short }, s .begins, s .size)
+  appends-build-over bs rs = sound-built bs _ (run-sound digest digest-32 bs rs)
+
+  pub calls-build-over : CallsBuild digest
+  calls-build-over bs cs = sound-built bs _ (calls-sound digest digest-32 bs cs)
 
   -- what building a log and its root hashes is each record, and the string at each place of its tree
   pub places-built-over : PlacesBuilt digest
@@ -93,6 +99,9 @@ one-letter mode = one-letter-over (digestIn mode) (digest-length mode)
 
 pub appends-build : (mode : List ℕ) → AppendsBuild (digestIn mode)
 appends-build mode = appends-build-over (digestIn mode) (digest-length mode)
+
+pub calls-build : (mode : List ℕ) → CallsBuild (digestIn mode)
+calls-build mode = calls-build-over (digestIn mode) (digest-length mode)
 
 pub places-built : (mode : List ℕ) → PlacesBuilt (digestIn mode)
 places-built mode = places-built-over (digestIn mode) (digest-length mode)

@@ -16,7 +16,8 @@ use Rattle.shape.specs.Tree.{places, hashedAt}
 use Rattle.shape.specs.Difference.{Collision}
 use Rattle.shape.specs.Folded.{tree}
 use Rattle.nodes.specs.Nodes.{nodeIn, Begins}
-use Rattle.log.specs.Appends.{run, empty}
+use Rattle.log.specs.Appends.{State, run, empty}
+use Rattle.batch_laws.specs.Calls.{Call, runCalls}
 use Rattle.log.specs.Outcome.{rootOutcome}
 use Rattle.log.specs.Hashed.{builtHashed}
 use Rattle.letter.specs.Bytes.{indexIn, recordIn}
@@ -115,11 +116,17 @@ module _ (digest : List ℕ → List ℕ) where
       (rs : List (List ℕ)) (bs cs : List ℕ) → Log rs → Begins digest bs rs → Begins digest cs rs
       → (i : ℕ) → i < length rs → ours digest rs bs i ≡ ours digest rs cs i
 
-  -- `appends-build`: any run of appends to an empty log, refused ones among them, that took a record leaves such a log, its size, and such a buffer
+  -- where a record was taken: such a log, its size, and such a buffer
+  abbrev pub Built : State → Type 0
+  Built s = 1 ≤ length (s .taken) → Log (s .taken) × Begins digest (s .bytes) (s .taken) × (s .size ≡ logSize (s .taken))
+
+  -- `appends-build`: any run of appends to an empty log, refused ones among them, leaves that
   abbrev pub AppendsBuild : Type 0
-  AppendsBuild =
-      (bs : List ℕ) (rs : List (List ℕ)) → let s = run digest (empty bs) rs in
-      1 ≤ length (s .taken) → Log (s .taken) × Begins digest (s .bytes) (s .taken) × (s .size ≡ logSize (s .taken))
+  AppendsBuild = (bs : List ℕ) (rs : List (List ℕ)) → Built (run digest (empty bs) rs)
+
+  -- `calls-build`: so does any run of appends and batches, so that a log that was kept by batches has every promise of this page
+  abbrev pub CallsBuild : Type 0
+  CallsBuild = (bs : List ℕ) (cs : List Call) → Built (runCalls digest (empty bs) cs)
 
   -- `places-built`: what appending a log's records one by one to an empty log with room, and then the root, hash is each record, and the string at
   -- each place of its folded tree, each as often

@@ -13,7 +13,8 @@ use Rattle.nodes.specs.Nodes.{nodeIn}
 use Rattle.log.specs.Outcome.{RootOutcome, rootRefused, rootOrder, rootDone, rootOver, rootOutcome}
 use Rattle.log.proofs.Grown.{root-of-log}
 use Rattle.log.proofs.Appends.{run-sound}
-use Rattle.plain_rule.specs.Root.{Answers, none, root, RootAnswers, SoundAnswers, RunAnswers, AnswersOnly}
+use Rattle.batch_laws.proofs.Calls.{calls-sound}
+use Rattle.plain_rule.specs.Root.{Answers, none, root, RootAnswers, SoundAnswers, RunAnswers, CallsAnswers, AnswersOnly}
 use Rattle.plain_rule.proofs.Splits.{split-some, split-long}
 use Rattle.plain_rule.proofs.Folded.{plain-root, plain-only}
 
@@ -52,6 +53,10 @@ module _ (digest : List ℕ → List ℕ) (digest-32 : (x : List ℕ) → length
   pub run-answers-over : RunAnswers digest
   run-answers-over bs rs = sound-answers-over bs _ (run-sound digest digest-32 bs rs)
 
+  -- of any run of appends and batches
+  pub calls-answers-over : CallsAnswers digest
+  calls-answers-over bs cs = sound-answers-over bs _ (calls-sound digest digest-32 bs cs)
+
 -- ---- for BLAKE3, plain or keyed
 
 pub root-answers : (mode : List ℕ) → RootAnswers (digestIn mode)
@@ -62,3 +67,6 @@ sound-answers mode = sound-answers-over (digestIn mode) (digest-length mode)
 
 pub run-answers : (mode : List ℕ) → RunAnswers (digestIn mode)
 run-answers mode = run-answers-over (digestIn mode) (digest-length mode)
+
+pub calls-answers : (mode : List ℕ) → CallsAnswers (digestIn mode)
+calls-answers mode = calls-answers-over (digestIn mode) (digest-length mode)

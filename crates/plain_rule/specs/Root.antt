@@ -8,6 +8,7 @@ use Rattle.shape.specs.Sizes.{sizeOf}
 use Rattle.nodes.specs.Nodes.{Begins}
 use Rattle.log.specs.Outcome.{RootOutcome, rootRefused, rootOutcome}
 use Rattle.log.specs.Appends.{State, run, empty, Sound}
+use Rattle.batch_laws.specs.Calls.{Call, runCalls}
 use Rattle.plain_rule.specs.Rule.{Split, plainRoot}
 
 module _ (digest : List ℕ → List ℕ) where
@@ -28,6 +29,10 @@ module _ (digest : List ℕ → List ℕ) where
   -- `run-answers`: of the records that were taken by any run of appends to an empty log over any buffer, refused ones among them
   abbrev pub RunAnswers : Type 0
   RunAnswers = (bs : List ℕ) (rs : List (List ℕ)) → let s = run digest (empty bs) rs in Answers (s .taken) (rootOutcome digest (s .size) (s .bytes))
+
+  -- `calls-answers`: of those that were taken by any run of appends and batches
+  abbrev pub CallsAnswers : Type 0
+  CallsAnswers = (bs : List ℕ) (cs : List Call) → let t = runCalls digest (empty bs) cs in Answers (t .taken) (rootOutcome digest (t .size) (t .bytes))
 
   -- `answers-only`: a list of records has one answer
   abbrev pub AnswersOnly : Type 0

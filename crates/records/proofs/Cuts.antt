@@ -1,13 +1,12 @@
 -- Laws of records cut from joined bytes.
 use mathlib.Core.Path.{_≡_, refl, sym, ap, ap₂, _∙_}
 use mathlib.Core.List.{List, [], _∷_, _++_, map}
-use Prim.Native.Nat.{ℕ, zero, suc, _+_, _≤_, _<_}
+use Prim.Native.Nat.{ℕ, suc, _+_, _≤_}
 use native.Mathlib.Nat.{le-of-eq}
 use native.Mathlib.Omega.{arith}
-use lib.ListN.{length, getD, take, drop, take-append-drop, length-append, length-drop}
+use lib.ListN.{length, take, drop, take-append-drop, length-append, length-drop}
 use lib.Seq.{length-take-le, take-at, drop-at, drop-drop, take-append-le, drop-append-le}
-use Rattle.wire.specs.Slices.{part, joined}
-use Rattle.wire.proofs.Parts.{part-within, part-drop}
+use Rattle.wire.specs.Slices.{joined}
 use Rattle.records.specs.Records.{total, cut}
 use Rattle.records.proofs.Sums.{total-none, total-cons}
 
@@ -74,20 +73,3 @@ pub cut-both : (js ks bs cs : List ℕ) → total js ≡ length bs → cut (js +
 cut-both js ks bs cs h =
     cut-append js ks (bs ++ cs)
     ∙ ap₂ (λ (x y : List (List ℕ)). x ++ y) (cut-front js bs cs (le-of-eq h)) (ap (cut ks) (drop-at bs cs (total js) (sym h)))
-
--- the record at a place: its bytes begin at the sum of the lengths before it
-pub cut-at : (ks bs : List ℕ) (i : ℕ) → i < length ks → total ks ≤ length bs
-    → getD (cut ks bs) i [] ≡ part (total (take i ks)) (getD ks i 0) bs
-unfolding cut total
-cut-at [] bs i p h = absurd (omega arith)
-cut-at (k ∷ ks) bs zero p h = sym (part-within 0 k bs (omega arith))
-cut-at (k ∷ ks) bs (suc i) p h =
-    cut-at ks (drop k bs) i (omega arith) (omega (arith, length-drop k bs))
-    ∙ part-drop (total (take i ks)) (getD ks i 0) k bs
-
--- no longer than all the bytes, where the lengths add up
-pub within-total : (ks : List ℕ) (i : ℕ) → i < length ks → total (take i ks) + getD ks i 0 ≤ total ks
-unfolding total
-within-total [] i p = absurd (omega arith)
-within-total (k ∷ ks) zero p = omega arith
-within-total (k ∷ ks) (suc i) p = omega (arith, within-total ks i (omega arith))

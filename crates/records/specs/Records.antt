@@ -1,8 +1,6 @@
 -- Records joined together, with a list of their lengths.
-use mathlib.Core.Bool.{true, false}
 use mathlib.Core.List.{List, [], _∷_}
 use Prim.Native.Nat.{ℕ, _+_}
-use lib.Dec.{eqb}
 use lib.ListN.{take, drop}
 
 -- the sum of the lengths
@@ -14,7 +12,3 @@ total (k ∷ ks) = k + total ks
 unfoldable pub cut : List ℕ → List ℕ → List (List ℕ)
 cut [] bs = []
 cut (k ∷ ks) bs = take k bs ∷ cut ks (drop k bs)
-
--- 1 where the lengths add up to n, else 0: number 16 applies where they do not add up to the joined bytes
-unfoldable pub addsUp : List ℕ → ℕ → ℕ
-addsUp ks n = elim (eqb (total ks) n) [ true ↦ 1 | false ↦ 0 ]

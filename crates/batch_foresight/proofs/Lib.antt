@@ -1,0 +1,2 @@
+-- Laws of the first refusal by numbers alone.
+pub mod Foreseen

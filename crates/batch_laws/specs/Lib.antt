@@ -1,0 +1,2 @@
+-- Runs of appends and batches, and two batches one after the other.
+pub mod Calls

@@ -1,0 +1,1 @@
+// Definitions and laws only: what a batch promises beside its contract.
