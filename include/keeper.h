@@ -1,11 +1,11 @@
 /* The keeper's calls, as C sees them, in libkeeper.a (rt staticlib keeper). docs/RULES.md has the rules.
-   A lent slice is two arguments, a pointer and a length in bytes. Each call returns a number: KEEPER_DONE, or the first refusal that applies, in
-   the order that stands at the call. A refusal changes no lent byte and no result. No call keeps anything when it returns: any number of threads
-   may call at once, each with its own bytes.
+   A lent slice is two arguments, a pointer and a length: of bytes, its name ends in _len and counts bytes; of 32-bit numbers, it ends in _count and
+   counts the numbers. Each call returns a number: KEEPER_DONE, or the first refusal that applies, in the order that stands at the call. A refusal
+   changes no lent byte and no result. No call keeps anything when it returns: any number of threads may call at once, each with its own bytes.
    What the caller owes, and nothing checks:
-   - each pointer is good for its bytes, to read or to write; one of length 0 is not looked at and may be NULL;
+   - each pointer is good for its length, to read or to write; one of length 0 is not looked at and may be NULL;
    - no length is longer than the object behind its pointer, which C keeps below 2^63 bytes;
-   - a mode and a result pointer are not NULL, and are aligned as their types are;
+   - a mode and a result pointer are not NULL; they, and the 32-bit numbers of a slice, are aligned as their types are;
    - what a call writes, results too, overlaps nothing else that it is lent: so the finder's two buffers lie apart.
    No proof compares this file with crates/keeper/src/lib.rt; outside/ calls every function by it. */
 #ifndef KEEPER_H
@@ -49,6 +49,8 @@ enum {
     /* finder: a node on the path, within its peak, isn't the digest of its two children: the nodes are damaged; take them from a copy */
     KEEPER_DAMAGED_NODES = 14,
     /* 15 is struck: it was for a letter of more than 32 items, which no log needs. No call answers it, and it will never mean anything else */
+    /* lengths do not add up to the joined records: a record was left out or cut, or a length is another's; join them again, one length for each */
+    KEEPER_LENGTHS_OFF = 16,
     /* key not 32 bytes: take the league's key whole, and nothing with it */
     KEEPER_NOT_A_KEY = 24
 };
@@ -97,6 +99,13 @@ uint32_t keeper_leaf_count(uint64_t size, uint64_t *leaves);
    digests were worked out. 1, 2, 3, 4. */
 uint32_t keeper_append(const keeper_mode *mode, uint64_t size, const uint8_t *rec, size_t rec_len, uint8_t *nodes, size_t nodes_len,
                        uint64_t *new_size, uint64_t *hashes);
+
+/* Many records in one call: records has them joined, one behind the other, and lengths how many bytes each has, in the same order. Writes what
+   keeper_append writes for one after the other; new_size and hashes are the size after the last and the hashes of all together. Nothing is written
+   unless every record is taken. No record at all is done, at 2^32 leaves too: new_size is size and hashes 0, whatever nodes holds. 1, 16, then the
+   first of 2, 3, 4 that appending one by one would meet, which is that of the first record that has any. */
+uint32_t keeper_append_many(const keeper_mode *mode, uint64_t size, const uint8_t *records, size_t records_len, const uint32_t *lengths,
+                            size_t lengths_count, uint8_t *nodes, size_t nodes_len, uint64_t *new_size, uint64_t *hashes);
 
 /* The root, into the first 32 bytes of out: the rightmost peak, folded leftward. 1, 10, 4, 6. */
 uint32_t keeper_root(const keeper_mode *mode, uint64_t size, const uint8_t *nodes, size_t nodes_len, uint8_t *out, size_t out_len);

@@ -4,7 +4,8 @@
    part (4 each), the parts' bytes. A part is a lent buffer or a result variable. An answer: whether a byte around a part was changed (1), the
    call's number (4), the parts' bytes. All little-endian. Placing, bit 0: a part ends where its room ends, else it begins where that begins;
    bit 1: an empty part has a null pointer. Next to its room on either side is a page that nobody may read or write, and a call may not write
-   to a part that it only reads: a library that does ends this program, and that is a difference too. A mode is a part as any other. */
+   to a part that it only reads: a library that does ends this program, and that is a difference too. A mode is a part as any other. A part of
+   numbers has the length of whole numbers, so that it is aligned where it ends with its room too. */
 #include <stddef.h>
 #include <stdint.h>
 #include <stdio.h>
@@ -28,6 +29,7 @@ _Static_assert(sizeof(keeper_mode) == 36 && offsetof(keeper_mode, keyed) == 0 &&
 #define BUFFER(I) parts[I].bytes, parts[I].length
 #define U64(I) ((uint64_t *)(void *)parts[I].bytes)
 #define U32(I) ((uint32_t *)(void *)parts[I].bytes)
+#define WORDS(I) U32(I), parts[I].length / sizeof(uint32_t)
 #define SIZE(I) ((size_t *)(void *)parts[I].bytes)
 #define MODE(I) ((keeper_mode *)(void *)parts[I].bytes)
 
@@ -38,6 +40,7 @@ static uint32_t size(void) { return keeper_size(numbers[0], U64(0)); }
 static uint32_t leaf_position(void) { return keeper_leaf_position(numbers[0], U64(0)); }
 static uint32_t leaf_count(void) { return keeper_leaf_count(numbers[0], U64(0)); }
 static uint32_t append(void) { return keeper_append(MODE(0), numbers[0], BUFFER(1), BUFFER(2), U64(3), U64(4)); }
+static uint32_t append_many(void) { return keeper_append_many(MODE(0), numbers[0], BUFFER(1), WORDS(2), BUFFER(3), U64(4), U64(5)); }
 static uint32_t root(void) { return keeper_root(MODE(0), numbers[0], BUFFER(1), BUFFER(2)); }
 static uint32_t letter_write(void) { return keeper_letter_write(MODE(0), numbers[0], numbers[1], BUFFER(1), BUFFER(2), BUFFER(3), SIZE(4)); }
 static uint32_t letter_check(void) { return keeper_letter_check(MODE(0), numbers[0], BUFFER(1), BUFFER(2), U64(3), SIZE(4), SIZE(5)); }
@@ -45,6 +48,19 @@ static uint32_t find(void) { return keeper_find(MODE(0), numbers[0], BUFFER(1), 
 static uint32_t store_leaf(void) { return keeper_store_leaf(MODE(0), BUFFER(1), BUFFER(2), SIZE(3)); }
 static uint32_t store_inner(void) { return keeper_store_inner(BUFFER(0), BUFFER(1), SIZE(2)); }
 static uint32_t read_node(void) { return keeper_read_node(BUFFER(0), U32(1), BUFFER(2), SIZE(3), SIZE(4)); }
+
+/* append_many over a buffer that is too long to be sent, numbers[1] bytes: the part is its end, and before it are zeros that nobody has written.
+   The number of no call where there is no such memory. */
+static uint32_t append_wide(void) {
+    size_t length = (size_t)numbers[1], before = length - parts[3].length;
+    uint8_t *all = mmap(NULL, length, PROT_READ | PROT_WRITE, MAP_PRIVATE | MAP_ANONYMOUS | MAP_NORESERVE, -1, 0);
+    if (all == MAP_FAILED) return UINT32_MAX;
+    memcpy(all + before, parts[3].bytes, parts[3].length);
+    uint32_t number = keeper_append_many(MODE(0), numbers[0], BUFFER(1), WORDS(2), all, length, U64(4), U64(5));
+    memcpy(parts[3].bytes, all + before, parts[3].length);
+    munmap(all, length);
+    return number;
+}
 
 /* No call of the library: writes one byte beside a part, which has to be noticed. */
 static uint32_t stray(void) {
@@ -74,6 +90,7 @@ static const struct {
     {"leaf_position", leaf_position, 0},
     {"leaf_count", leaf_count, 0},
     {"append", append, 2},
+    {"append_many", append_many, 3},
     {"root", root, 2},
     {"letter_write", letter_write, 3},
     {"letter_check", letter_check, 3},
@@ -81,6 +98,7 @@ static const struct {
     {"store_leaf", store_leaf, 2},
     {"store_inner", store_inner, 1},
     {"read_node", read_node, 1},
+    {"append_wide", append_wide, 3},
     {"stray", stray, 0},
     {"layout", layout, 0},
 };

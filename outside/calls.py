@@ -13,6 +13,7 @@ PARTS = {
     "leaf_position": ("position",),
     "leaf_count": ("leaves",),
     "append": ("mode", "record", "nodes", "new_size", "hashes"),
+    "append_many": ("mode", "joined", "lengths", "nodes", "new_size", "hashes"),
     "root": ("mode", "nodes", "out"),
     "letter_write": ("mode", "record", "nodes", "out", "length"),
     "letter_check": ("mode", "root", "letter", "index", "record_at", "record_len"),
@@ -20,11 +21,12 @@ PARTS = {
     "store_leaf": ("mode", "record", "out", "length"),
     "store_inner": ("digest", "out", "length"),
     "read_node": ("bytes", "kind", "digest_out", "record_at", "record_len"),
+    "append_wide": ("mode", "joined", "lengths", "end", "new_size", "hashes"),
     "stray": ("part",),
     "layout": ("size", "keyed_at", "keyed_size", "key_at", "key_size"),
 }
-# Those that are no calls of the library.
-NO_CALLS = ("stray", "layout")
+# Those that are no calls of the library, and one that is another once more.
+NO_CALLS = ("append_wide", "stray", "layout")
 # Those that work out a digest, in the mode that is their first part.
 MODED = tuple(call for call, parts in PARTS.items() if parts[0] == "mode" and len(parts) > 1)
 
@@ -97,6 +99,17 @@ def write_case(size, index, record, nodes, room, mode=PLAIN):
 def append_case(size, record, nodes, mode=PLAIN):
     """An append."""
     return Case("append", (size,), [mode, record, nodes, u64(11 << 33), u64(13 << 33)])
+
+
+def many_case(size, joined, lengths, nodes, mode=PLAIN):
+    """An append of many records, whose lengths are numbers of 32 bits."""
+    return Case("append_many", (size,), [mode, joined, struct.pack(f"<{len(lengths)}I", *lengths), nodes, u64(23 << 33), u64(25 << 33)])
+
+
+def wide_case(size, length, records, end, mode):
+    """An append of many to a buffer that is too long to be sent: its length, and its end."""
+    lengths = b"".join(u32(len(record)) for record in records)
+    return Case("append_wide", (size, length), [mode, b"".join(records), lengths, end, u64(27 << 33), u64(29 << 33)])
 
 
 def root_case(size, nodes, room, mode=PLAIN):

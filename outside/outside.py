@@ -5,7 +5,7 @@ A C program, outside/bridge.c, makes each call on buffers that lie against forbi
 result variables too. What the second program says is compared with all of it. Each refusal alone, and every two at once, stand in vectors/, which
 outside/vectors.py holds the library to; here is what such files cannot hold, and no case that they have. The finder's "records" and "pair" are two
 strings of one digest: nobody has such strings, so of its answers only "same" and the refusals are met here. What works out a digest is tried plain
-and keyed, and has a row for each at the end.
+and keyed, and has a row for each at the end. Batches at the end of a log of 2^32 leaves are tried before that, by full.py.
 
     outside.py                        build the bridge and compare
     outside.py --seed N --rounds N    other random inputs, or more of them
@@ -16,6 +16,7 @@ and keyed, and has a row for each at the end.
 Exit status: 0 where all agree; 1 at the first difference, which is printed; 2 where nothing could be run.
 """
 import argparse
+import struct
 import sys
 from collections import Counter, namedtuple
 from pathlib import Path
@@ -24,13 +25,14 @@ sys.path.insert(0, str(Path(__file__).resolve().parent.parent / "second"))
 
 from bridge import Answer, Bridge, build, differences, lines_of, made_wrong, refused, wrong_answers  # noqa: E402
 from calls import MODED, PLAIN, Case, is_keyed, mode_bytes, u32, u64  # noqa: E402
+from full import full_agrees  # noqa: E402
 from inputs import cases  # noqa: E402
 from inputs.world import digest_in  # noqa: E402
 from layout import layout_agrees  # noqa: E402
-from rules import blake3, finder, letters, log, shape, stored  # noqa: E402
+from rules import batch, blake3, finder, letters, log, shape, stored  # noqa: E402
 from rules.log import NODE  # noqa: E402
 
-ROUNDS = 8000
+ROUNDS = 9000
 
 
 # ---- what the second program says of a call: the number, and the parts where it is done; in place of a mode that is only read stands its digest
@@ -68,6 +70,12 @@ def say_append(numbers, digest, record, nodes, new_size, hashes):
     buffer = bytearray(nodes)
     answer = log.append(*numbers, record, buffer, digest)
     return answer.number, [record, bytes(buffer), u64(answer.size), u64(answer.hashes)]
+
+
+def say_append_many(numbers, digest, joined, lengths, nodes, new_size, hashes):
+    buffer = bytearray(nodes)
+    answer = batch.append_many(*numbers, joined, struct.unpack(f"<{len(lengths) // 4}I", lengths), buffer, digest)
+    return answer.number, [joined, lengths, bytes(buffer), u64(answer.size), u64(answer.hashes)]
 
 
 def say_root(numbers, digest, nodes, out):
@@ -124,6 +132,7 @@ CALLS = {
     "leaf_position": Call(say_leaf_position, (0, 5)),
     "leaf_count": Call(say_leaf_count, (0, 1)),
     "append": Call(say_append, (0, 1, 2, 3, 4)),
+    "append_many": Call(say_append_many, (0, 1, 16, 2, 3, 4)),
     "root": Call(say_root, (0, 1, 10, 4, 6)),
     "letter_write": Call(say_letter_write, (0, 1, 5, 3, 4, 13, 6)),
     "letter_check": Call(say_letter_check, (0, 1, 12, 7, 8, 5, 3, 9)),
@@ -227,7 +236,7 @@ def main():
     parser.add_argument("--bridge", help="a bridge that is built already")
     given = parser.parse_args()
     bridge = Bridge(given.bridge or build())
-    good = given.only is not None or (layout_agrees(bridge) and self_test(bridge, given))
+    good = given.only is not None or (layout_agrees(bridge) and self_test(bridge, given) and full_agrees(bridge))
     if good and not given.self_test:
         good = compare(bridge, given)
     return bridge.close() == 0 and good

@@ -4,8 +4,8 @@ from collections import namedtuple
 from pathlib import Path
 
 from bridge import Answer, refused
-from calls import (append_case, check_case, digest_case, find_case, inner_case, leaf_case, mode_bytes, mode_keyed_case, mode_plain_case, number_case,
-                   read_case, root_case, u32, u64, write_case)
+from calls import (append_case, check_case, digest_case, find_case, inner_case, leaf_case, many_case, mode_bytes, mode_keyed_case, mode_plain_case,
+                   number_case, read_case, root_case, u32, u64, write_case)
 
 VECTORS = Path(__file__).resolve().parent.parent / "vectors"
 PUBLISHED, PUBLISHED_KEY = "blake3-published.txt", b"whats the Elvish word for friend"
@@ -32,7 +32,7 @@ def each(kind):
 KINDS = {
     **dict.fromkeys(("number", "size", "new_size", "hashes", "leaves", "index", "position", "record_at", "room", "first_room",
                      "second_room", "keyed"), int),
-    **dict.fromkeys(("sizes", "hashes_each"), each(int)),
+    **dict.fromkeys(("sizes", "hashes_each", "lengths"), each(int)),
     **dict.fromkeys(("records", "roots"), each(octets)),
     **dict.fromkeys(("kind", "found"), str),
     "items": each(each(int)),
@@ -108,6 +108,11 @@ def append_asked(given, answer):
     return asked_once(case, answer, lambda: [answer["nodes"], u64(answer["new_size"]), u64(answer["hashes"])])
 
 
+def many_asked(given, answer):
+    case = many_case(given["size"], given["joined"], given["lengths"], given["nodes"], mode_in(given))
+    return asked_once(case, answer, lambda: [answer["nodes"], u64(answer["new_size"]), u64(answer["hashes"])])
+
+
 def root_asked(given, answer):
     return asked_once(root_case(given["size"], given["nodes"], NODE, mode_in(given)), answer, lambda: [answer["root"]])
 
@@ -170,6 +175,7 @@ ASKED = {
     "leaf_position": number_asked("leaf_position", "index", "position"),
     "leaf_count": number_asked("leaf_count", "size", "leaves"),
     "append": append_asked,
+    "append_many": many_asked,
     "root": root_asked,
     "log": log_asked,
     "letter_write": write_asked,

@@ -2,7 +2,7 @@
 import random
 from collections import namedtuple
 
-from calls import PLAIN, Case, flipped
+from calls import PLAIN, Case, flipped, u32
 from inputs.world import EDGES, LEAGUES, LEAVES, LENGTHS
 from rules import letters, shape, stored
 from rules.finder import PAIR
@@ -131,6 +131,34 @@ def random_append(chance, world, given):
     return Case("append", (given.size,), [world.mode, given.record, nodes, chance.variable(), chance.variable()])
 
 
+def any_lengths(chance, lengths):
+    """A list of lengths with one of them changed, left out or added, two changed about, or a sum that is right modulo 2^32 only."""
+    place, others = chance.randrange(len(lengths) + 1), list(lengths)
+    how = chance.randrange(5)
+    if how == 0:
+        others.insert(place, chance.choice((0, 1, LONGEST_RECORD + 1, 2**32 - 1, chance.getrandbits(32))))
+    elif how == 1:
+        others[place:place + 1] = []
+    elif how == 2:
+        others[place:place + 1] = [min(max(length + chance.choice((-1, 1)), 0), 2**32 - 1) for length in others[place:place + 1]]
+    elif how == 3:
+        chance.shuffle(others)
+    else:
+        others[place:place] = [2**32 - 1, 1]
+    return others
+
+
+def random_append_many(chance, world, given):
+    count = chance.choice((0, 1, 2, 3, chance.randrange(12), chance.randrange(41)))
+    records = [world.records[(given.leaves + place) % LEAVES] for place in range(count)]
+    if records and chance.random() < 1 / 3:
+        records[chance.randrange(count)] = given.record
+    joined, lengths = b"".join(records), [len(record) for record in records]
+    nodes = any_nodes(chance, world, given.leaves, NODE * nodes_of(given.leaves + chance.often(count, chance.randrange(count + 2))))
+    shown = b"".join(map(u32, chance.often(lengths, lengths, any_lengths(chance, lengths))))
+    return Case("append_many", (given.size,), [world.mode, joined, shown, nodes, chance.variable(), chance.variable()])
+
+
 def random_root(chance, world, given):
     nodes = any_nodes(chance, world, given.leaves, NODE * nodes_of(given.leaves))
     return Case("root", (given.size,), [world.mode, nodes, chance.out(NODE)])
@@ -180,7 +208,7 @@ def random_read_node(chance, world, given):
 
 # Each kind of random case, and how often it is taken.
 RANDOM = {
-    random_digest: 1, random_number: 2, random_append: 3, random_root: 2, random_letter_write: 3, random_letter_check: 3,
+    random_digest: 1, random_number: 2, random_append: 3, random_append_many: 3, random_root: 2, random_letter_write: 3, random_letter_check: 3,
     random_large_check: 1, random_find: 4, random_store_leaf: 1, random_store_inner: 1, random_read_node: 1,
 }
 # Those of calls that work out no digest, and have no mode.

@@ -2,8 +2,8 @@
 import itertools
 import random
 
-from calls import (BEFORE, append_case, check_case, digest_case, find_case, flipped, leaf_case, mode_bytes, mode_keyed_case, mode_plain_case,
-                   root_case, write_case)
+from calls import (BEFORE, append_case, check_case, digest_case, find_case, flipped, leaf_case, many_case, mode_bytes, mode_keyed_case,
+                   mode_plain_case, root_case, write_case)
 from expected.given import KEYS, LEAGUES
 from portable.orders import order_cases
 from rules.log import NODE
@@ -38,6 +38,8 @@ def true_cases(world, mode):
     size, nodes, record, letter = nodes_of(LEAVES), world.nodes(LEAVES), world.records[INDEX], world.letter(LEAVES, INDEX)
     yield digest_case(record, NODE, mode)
     yield append_case(size, world.records[LEAVES], nodes.ljust(NODE * nodes_of(LEAVES + 1), b"\x3c"), mode)
+    yield many_case(size, world.records[LEAVES] + record, [len(world.records[LEAVES]), len(record)],
+                    nodes.ljust(NODE * nodes_of(LEAVES + 2), b"\x3c"), mode)
     yield root_case(size, nodes, NODE, mode)
     yield write_case(size, INDEX, record, nodes, len(letter), mode)
     yield check_case(size, world.root(LEAVES), letter, mode)

@@ -1,6 +1,7 @@
 """The files of portable vectors, and what makes each: written, or compared with what is stored."""
 from pathlib import Path
 
+from portable.batches import batch_cases
 from portable.digests import digest_cases
 from portable.finder import finder_cases
 from portable.form import file_text
@@ -20,6 +21,7 @@ FILES = {
     "keyed.json": ("keys, modes, and what is worked out under a key", "5.5", keyed_cases),
     "shape.json": ("sizes, positions of leaves and leaf counts", "6", shape_cases),
     "logs.json": ("whole logs, appends and roots", "7", log_cases),
+    "batches.json": ("many records in one append", "7.7", batch_cases),
     "stored.json": ("stored nodes, written and read", "8", stored_cases),
     "letters-written.json": ("letters written", "9", writing_cases),
     "letters-checked.json": ("letters checked: true, damaged, forged", "9", checking_cases),

@@ -3,6 +3,7 @@ import itertools
 
 from expected.given import KEYS, LEAGUES
 from expected.panel import longest_letter
+from portable.batches import batch_of, many_case
 from portable.digests import digest_case
 from portable.finder import find_case
 from portable.form import case, counted, logged
@@ -57,7 +58,7 @@ def mode_cases():
 
 
 def log_cases():
-    """Logs of both leagues, records at the limit, appends with bytes beyond them, roots, stored leaves."""
+    """Logs of both leagues, records at the limit, appends of one and of many with bytes beyond them, roots, stored leaves."""
     yield whole_case("seven records", [logged(number) for number in range(LEAVES)], ONE)
     yield whole_case("three records of the other league", [logged(number) for number in range(3)], OTHER)
     yield whole_case("a record of 16384 bytes, and an empty one", [counted(5, LONGEST_RECORD), b""], ONE)
@@ -65,6 +66,9 @@ def log_cases():
         size, nodes = small_log(leaves, ONE)
         wanted = NODE * nodes_of(leaves + 1)
         yield append_case(f"append to {leaves} records, forty bytes of room too many", size, logged(leaves), nodes.ljust(wanted + 40, b"\x3c"), ONE)
+    for leaves, count in ((0, 7), (3, 5)):
+        yield many_case(f"{count} in one append to {leaves} records", **batch_of(leaves, count, 40, ONE))
+    yield many_case("no record in one append to 3 records", nodes_of(3), b"", [], b"", ONE)
     size, nodes = small_log(LEAVES, ONE)
     yield root_case(f"root of {LEAVES} records, bytes beyond the size", size, nodes + b"\x3c" * 33, ONE)
     yield root_case(f"root of {LEAVES} records in the mode of the other league", size, nodes, OTHER)

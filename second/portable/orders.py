@@ -2,6 +2,7 @@
 import itertools
 
 from expected.given import LEAGUES
+from portable.batches import many_case
 from portable.form import counted, logged
 from portable.finder import find_case
 from portable.letters import check_case, flipped, write_case
@@ -13,10 +14,12 @@ from rules.log import LONGEST_RECORD, NODE, root
 from rules.shape import MOST_LEAVES, nodes_of
 
 LEAVES, INDEX = 3, 0
-# An order: its entries, each a number and where there are two of it a word for which.
+# An order: its entries, each a number and where there are two of it a word for which. A batch is of three records; its later ones have no 2 of their
+# own, for the buffer that those before them would fill has 2^38 bytes.
 FROM_7 = ("7 (under 20 bytes)", "8", "5", "3 (stated length)", "7 (exact length)", "9")
 ORDERS = {
     "append": ("1", "2", "3", "4"),
+    "append_many": ("1", "16", "2", "3 (first)", "4 (first)", "3 (middle)", "4 (middle)", "3 (last)", "4 (last)"),
     "root": ("1", "10", "4"),
     "letter_write": ("1", "5", "3", "4", "13", "6"),
     "letter_check": ("1", "12", *FROM_7),
@@ -41,6 +44,12 @@ def letter_changes(letter, stated):
     }
 
 
+def with_records(name, first, middle, last, spare, **given):
+    """A case of a batch of three records, with bytes to spare behind the joined ones."""
+    records = (first, middle, last)
+    return many_case(name, joined=b"".join(records) + spare, lengths=[len(record) for record in records], **given)
+
+
 def with_letter(make, parts):
     """A case of a call that is given a letter, from the letter's parts and the call's own."""
     def made(name, **given):
@@ -57,6 +66,12 @@ def calls(mode):
     room = {"nodes": nodes + bytes(NODE * (nodes_of(LEAVES + 1) - size) - 1)}
     yield "append", append_case, {"size": size, "record": record, "nodes": room["nodes"] + b"\0"}, {
         "1": no_size, "2": {"size": nodes_of(MOST_LEAVES)}, "3": {"record": longer}, "4": room}
+    wanted = [NODE * nodes_of(LEAVES + taken) for taken in (1, 2, 3)]
+    yield "append_many", with_records, {
+        "size": size, "first": b"", "middle": record, "last": logged(2), "spare": b"", "nodes": nodes.ljust(wanted[2], b"\x3c")}, {
+        "1": no_size, "16": {"spare": b"\0"}, "2": {"size": nodes_of(MOST_LEAVES)}, **{
+            f"3 ({which})": {which: longer} for which in ("first", "middle", "last")}, **{
+            f"4 ({which})": {"nodes": nodes.ljust(room, b"\x3c")[:room - 1]} for which, room in zip(("first", "middle", "last"), wanted)}}
     yield "root", root_case, {"size": size, "nodes": nodes}, {"1": no_size, "10": {"size": 0}, "4": short}
     yield "letter_write", write_case, {"size": size, "index": INDEX, "record": record, "nodes": nodes, "room": len(letter)}, {
         "1": no_size, "5": {"index": LEAVES}, "3": {"record": longer}, "4": short, "13": {"record": b"other"}, "6": {"room": len(letter) - 1}}

@@ -14,25 +14,24 @@ use Rattle.wire.specs.Writers.{WriteOutcome, wrote}
 use Rattle.wire.proofs.Splices.{written-fits}
 use Rattle.log.specs.declared.Appended.{Appended}
 use Rattle.log.specs.declared.Rooted.{Rooted}
-use Rattle.log.specs.Outcome.{AppendOutcome, appended, appendOutcome, rooted, RootOutcome, rootOutcome}
-use Rattle.keeper.specs.Calls.{appendLeft, appendCall, Filled, filled, handed, digestCall, rootCall, writeLeft, writeCall}
+use Rattle.log.specs.Outcome.{AppendOutcome, appended, rooted, RootOutcome, rootOutcome}
+use Rattle.keeper.specs.Calls.{appendLeft, appendOver, Filled, filled, handed, digestCall, rootCall, writeLeft, writeCall}
 use Rattle.keeper.proofs.Kept.{kept-done, kept-left}
 
 -- ---- Append
 
-module _ (mode : List ℕ) (size : ℕ) (rec bs : List ℕ) (oldSize oldHashes : ℕ) (r : Appended) (x : List ℕ)
-    (e : appended r x ≡ appendOutcome (digestIn mode) size rec bs) where
+module _ (oldSize oldHashes : ℕ) (r : Appended) (x : List ℕ) {outcome : AppendOutcome} (e : appended r x ≡ outcome) where
   abbrev number : AppendOutcome → ℕ
   number o = o .number
 
-  -- a refusal leaves what was there; a done append puts its two results behind the pointers
-  pub append-refused : r .number ≢ 0 → appendLeft (r .number) oldSize oldHashes x ≡ appendCall mode size rec bs oldSize oldHashes
-  unfolding appendCall
+  -- a refusal leaves what was there; a done append, of one record or of many, puts its two results behind the pointers
+  pub append-refused : r .number ≢ 0 → appendLeft (r .number) oldSize oldHashes x ≡ appendOver oldSize oldHashes outcome
+  unfolding appendOver
   append-refused k =
       ap (λ (o : AppendOutcome). appendLeft (o .number) oldSize oldHashes (o .bytes)) e ∙ sym (kept-left _ _ _ (λ z. k (ap number e ∙ z)))
 
-  pub append-done : r .number ≡ 0 → appendLeft 0 (r .size) (r .hashes) x ≡ appendCall mode size rec bs oldSize oldHashes
-  unfolding appendCall
+  pub append-done : r .number ≡ 0 → appendLeft 0 (r .size) (r .hashes) x ≡ appendOver oldSize oldHashes outcome
+  unfolding appendOver
   append-done z =
       ap (λ (n : ℕ). appendLeft n (r .size) (r .hashes) x) (sym z) ∙ e ∙ sym (kept-done _ _ _ (sym (ap number e) ∙ z))
 

@@ -10,6 +10,7 @@ use Rattle.shape.specs.Answers.{Answer}
 use Rattle.wire.specs.Slices.{splice}
 use Rattle.wire.specs.Writers.{WriteOutcome}
 use Rattle.log.specs.Outcome.{AppendOutcome, appendOutcome, rootOutcome}
+use Rattle.batch.specs.Batch.{batchOutcome}
 
 -- what is left behind the pointers: `done` where the call below has the number 0, and `kept` where it refuses
 unfoldable pub orKept : {X : Type 0} → ℕ → X → X → X
@@ -33,10 +34,16 @@ abbrev pub appendLeft : ℕ → ℕ → ℕ → List ℕ → AppendOutcome
 appendLeft number size hashes bs = record { number = number; size = size; hashes = hashes; bytes = bs }
 
 -- the result variables held `oldSize` and `oldHashes`
-unfoldable pub appendCall : List ℕ → ℕ → List ℕ → List ℕ → ℕ → ℕ → AppendOutcome
-appendCall mode size rec bs oldSize oldHashes =
-    let o = appendOutcome (digestIn mode) size rec bs in
-    orKept (o .number) o (appendLeft (o .number) oldSize oldHashes (o .bytes))
+unfoldable pub appendOver : ℕ → ℕ → AppendOutcome → AppendOutcome
+unfolding orKept
+appendOver oldSize oldHashes o = orKept (o .number) o (appendLeft (o .number) oldSize oldHashes (o .bytes))
+
+-- one record, and many
+abbrev pub appendCall : List ℕ → ℕ → List ℕ → List ℕ → ℕ → ℕ → AppendOutcome
+appendCall mode size rec bs oldSize oldHashes = appendOver oldSize oldHashes (appendOutcome (digestIn mode) size rec bs)
+
+abbrev pub appendManyCall : List ℕ → ℕ → List ℕ → List ℕ → List ℕ → ℕ → ℕ → AppendOutcome
+appendManyCall mode size whole lengths bs oldSize oldHashes = appendOver oldSize oldHashes (batchOutcome (digestIn mode) size whole lengths bs)
 
 -- ---- A digest written out
 

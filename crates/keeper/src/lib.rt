@@ -2,7 +2,7 @@
 // every result variable as it was.
 ghost use mathlib.Core.Path.{_≡_};
 ghost use Rattle.shape.specs.Sizes.{sizeAnswer, positionAnswer, countAnswer};
-ghost use Rattle.keeper.specs.Calls.{answered, over, appendLeft, appendCall, filled, digestCall, rootCall, writeLeft};
+ghost use Rattle.keeper.specs.Calls.{answered, over, appendLeft, appendCall, appendManyCall, filled, digestCall, rootCall, writeLeft};
 ghost use Rattle.keeper.specs.Modes.{plainCall, keyedCall};
 ghost use Rattle.keeper.specs.Nodes.{storeLeafCall, storeInnerCall, readLeft, readCall};
 ghost use Rattle.keeper.specs.Letters.{letterWriteCall, checkLeft, letterCheckCall};
@@ -108,6 +108,30 @@ pub extern "C" fn keeper_append(
     }
     *new_size = a.size;
     *hashes = a.hashes;
+    0
+}
+
+// Many records, joined together, with the length of each: all of them, or none.
+#[no_mangle]
+pub extern "C" fn keeper_append_many(
+    mode: &[u8; 36],
+    size: u64,
+    records: &[u8],
+    lengths: &[u32],
+    nodes: &mut [u8],
+    new_size: &mut u64,
+    hashes: &mut u64,
+) -> u32
+    ensures { λ r. ⌜ appendLeft r (now («new_size» .exit)) (now (hashes .exit)) (now (nodes .exit))
+        ≡ appendManyCall (now (mode .entry)) size (now (records .entry)) (now (lengths .entry)) (now (nodes .entry))
+        (now («new_size» .entry)) (now (hashes .entry)) ⌝ }
+{
+    let b = batch::append_many(mode, size, records, lengths, nodes);
+    if b.number != 0 {
+        return b.number;
+    }
+    *new_size = b.size;
+    *hashes = b.hashes;
     0
 }
 

@@ -9,13 +9,13 @@ returns : tie.Need-returns
 returns c =
     let a = c .before .before .before .before .before .before .before .before .args in
     let r = c .before .before .before .before .append in
-    append-refused (a .mode .now) (a .size) (a .rec .now) (a .nodes .now) (a .new-size .now) (a .hashes .now) (r .result) _ (r .ensures) (λ z. omega arith)
+    append-refused (a .new-size .now) (a .hashes .now) (r .result) _ (r .ensures) (λ z. omega arith)
 
 returns-2 : tie.Need-returns-2
 returns-2 c =
     let a = c .before .before .before .before .before .before .before .before .args in
     let r = c .before .before .before .before .append in
-    append-done (a .mode .now) (a .size) (a .rec .now) (a .nodes .now) (a .new-size .now) (a .hashes .now) (r .result) _ (r .ensures) (omega arith)
+    append-done (a .new-size .now) (a .hashes .now) (r .result) _ (r .ensures) (omega arith)
 
 pub keeper-append-spec : {M : Type 1} → statement M
 keeper-append-spec =
