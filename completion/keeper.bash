@@ -14,13 +14,13 @@ _keeper() {
     --size | --wait) return ;;
     esac
     case ${COMP_WORDS[1]} in
-    append) options="--folder --stream --acknowledge --keep-records --wait --key" ;;
-    root) options="--size --bytes --records --folder --stream --key" ;;
+    append) options="--folder --stream --acknowledge --keep-records --wait --quiet --key" ;;
+    root) options="--size --bytes --records --folder --stream --quiet --key" ;;
     info) options="--key" ;;
     letter) options="--size --record --key" ;;
     check) options="--show --record --records-to --page --key" ;;
     find) options="--size --key" ;;
-    verify) options="--records --key" ;;
+    verify) options="--records --quiet --key" ;;
     repair) options="--wait --key" ;;
     *) options= ;;
     esac

@@ -4,6 +4,7 @@
 #include <stdio.h>
 #include <string.h>
 #include "answer.h"
+#include "batch.h"
 #include "commands.h"
 #include "input.h"
 #include "keeper.h"
@@ -16,34 +17,48 @@
 /* A stream is kept at every pause, and without one after so many seconds or records. */
 enum { KEEP_SECONDS = 1, KEEP_RECORDS = 1 << 16 };
 static Input record;
+static Batch waiting;
 
 /* Appends of one run: the log, where they began, how many came in. */
 typedef struct {
     Store log;
-    uint64_t first, first_size, records, bytes;
+    uint64_t first, first_size;
+    uint64_t records, bytes; /* that came in */
+    uint64_t appended, kept; /* how many of the records are in the log, and how many on disk */
     int acknowledge;
     double kept_at;
     Progress progress;
-    int error; /* errno of a write that failed */
+    uint32_t number; /* of the first record that was not appended */
+    int error;       /* errno of a write that failed */
 } Work;
 
-static void begin(Work *work, const Asked *asked) {
+/* So many records are to come, 0 where nobody knows. */
+static void begin(Work *work, const Asked *asked, size_t count) {
     *work = (Work){.acknowledge = asked->acknowledge};
     store_open(&work->log, asked->words[0], TO_APPEND, seconds_in(asked->wait));
     work->first_size = work->log.size;
     work->first = store_leaves(&work->log);
     records_open(&work->log.records, asked->words[0], work->first, 1, asked->keep_records);
-    progress_begin(&work->progress);
+    progress_begin(&work->progress, count);
     work->kept_at = work->progress.begun;
 }
 
-static uint32_t append_record(Work *work, const uint8_t *bytes, size_t length) {
-    uint32_t number = store_append(&work->log, bytes, length);
-    if (number == STORE_FULL) work->error = errno;
-    if (number != KEEPER_DONE) return number;
+/* What waits goes into the log, up to the first record that is refused or has no room. */
+static void append_waiting(Work *work) {
+    size_t appended;
+    Joined joined = batch_joined(&waiting);
+    work->number = store_append(&work->log, &joined, &appended);
+    if (work->number == STORE_FULL) work->error = errno;
+    work->appended += appended;
+    batch_empty(&waiting);
+}
+
+/* One more record, which waits until there is a batch. */
+static void take(Work *work, const uint8_t *bytes, size_t length) {
+    batch_add(&waiting, bytes, length);
     work->records++;
     work->bytes += length;
-    return number;
+    if (batch_is_full(&waiting)) append_waiting(work);
 }
 
 /* Brings to disk what came in: 0, or -1 where that failed. */
@@ -53,9 +68,11 @@ static int keep(Work *work) {
         work->error = errno;
         return -1;
     }
+    work->kept = work->appended;
     work->kept_at = seconds();
     if (!work->acknowledge || work->log.state.size == before) return 0;
     keeper_leaf_count(work->log.state.size, &leaves);
+    progress_end();
     line("kept: size %" PRIu64 ", %" PRIu64 " records", work->log.state.size, leaves);
     put_number("kept_size", work->log.state.size);
     put_number("kept_records", leaves);
@@ -87,21 +104,38 @@ static void tell(Work *work) {
 
 /* ---- files: kept together at the end, or not at all */
 
+/* A file that cannot be read ends the program, unless one before it is refused. */
+static void read_next(Work *work, const char *path) {
+    if (try_input(&record, path, LONGEST_RECORD + 1) == 0) return;
+    int error = errno;
+    append_waiting(work);
+    errno = error;
+    if (work->number == KEEPER_DONE) fail_unread(path);
+}
+
+/* Each file is a record, up to the first that is not appended. One that is alone was read before the log was opened. */
+static void take_files(Work *work, char *const *paths, size_t count) {
+    for (size_t i = 0; i < count && work->number == KEEPER_DONE; i++) {
+        if (count > 1) read_next(work, paths[i]);
+        if (work->number == KEEPER_DONE) take(work, record.bytes, record.length);
+        progress_tell(&work->progress, work->records, work->bytes);
+    }
+    if (work->number == KEEPER_DONE) append_waiting(work);
+}
+
+static int refuse_files(Work *work, const char *path) {
+    if (work->number == STORE_FULL) fail("cannot make %s longer: %s. Nothing was appended", work->log.file.path, strerror(work->error));
+    if (path) note("%s cannot be appended, and so nothing was", path);
+    store_close(&work->log);
+    return refused("append", work->number);
+}
+
 static int append_files(const Asked *asked, char *const *paths, size_t count) {
     Work work;
     if (count == 1) read_input(&record, paths[0], LONGEST_RECORD + 1);
-    begin(&work, asked);
-    for (size_t i = 0; i < count; i++) {
-        if (count > 1) read_input(&record, paths[i], LONGEST_RECORD + 1);
-        uint32_t number = append_record(&work, record.bytes, record.length);
-        if (number == STORE_FULL) fail("cannot make %s longer: %s. Nothing was appended", asked->words[0], strerror(work.error));
-        if (number != KEEPER_DONE && paths[i]) note("%s cannot be appended, and so nothing was", paths[i]);
-        if (number != KEEPER_DONE) {
-            store_close(&work.log);
-            return refused("append", number);
-        }
-        progress_tell(&work.progress, "records", work.records, work.bytes);
-    }
+    begin(&work, asked, count);
+    take_files(&work, paths, count);
+    if (work.number != KEEPER_DONE) return refuse_files(&work, paths[work.appended]);
     if (keep(&work) != 0) fail("cannot write %s: %s. It is not certain what is on disk: keeper info shows it", asked->words[0], strerror(work.error));
     tell(&work);
     store_stays(&work.log);
@@ -120,13 +154,28 @@ static int append_folder(const Asked *asked) {
 
 static int pause_of(void *of, int quiet) {
     Work *work = of;
-    progress_tell(&work->progress, "records", work->records, work->bytes);
-    return quiet || seconds() - work->kept_at >= KEEP_SECONDS ? keep(work) : 0;
+    progress_tell(&work->progress, work->records, work->bytes);
+    if (!quiet && seconds() - work->kept_at < KEEP_SECONDS) return 0;
+    append_waiting(work);
+    return work->number == KEEPER_DONE ? keep(work) : -1;
+}
+
+static int goes_on(const Work *work) { return work->number == KEEPER_DONE && work->error == 0; }
+
+/* Behind the last record: what waits is appended, and what is appended is kept, unless a write has failed. */
+static void keep_rest(Work *work) {
+    if (goes_on(work)) append_waiting(work);
+    if (work->error != 0 && work->number != STORE_FULL) return;
+    int full = work->error;
+    work->error = 0;
+    if (keep(work) == 0) work->error = full;
+    else work->number = KEEPER_DONE;
 }
 
 /* Why a stream ended before its end, and the status. */
-static int say_end(const Work *work, const Stream *stream, Next next, uint32_t number) {
+static int say_end(const Work *work, const Stream *stream, Next next) {
     const char *log = work->log.file.path;
+    uint32_t number = work->number;
     if (number == STORE_FULL) return failed("cannot make %s longer: %s. What came in before is kept, and the next record is not", log, strerror(work->error));
     if (number != KEEPER_DONE) return refused("append", number);
     if (work->error != 0) return failed("cannot write %s: %s. For what came behind that it is not certain: keeper info shows it", log, strerror(work->error));
@@ -142,24 +191,18 @@ static int append_stream(const Asked *asked) {
     Work work;
     const uint8_t *bytes;
     size_t length;
-    uint32_t number = KEEPER_DONE;
     Next next = A_RECORD;
     take_standard_input();
-    begin(&work, asked);
+    begin(&work, asked, 0);
     stream.pause = pause_of;
     stream.of = &work;
-    while (number == KEEPER_DONE && work.error == 0 && (next = next_record(&stream, &bytes, &length)) == A_RECORD) {
-        number = append_record(&work, bytes, length);
-        if (number == KEEPER_DONE && work.records % KEEP_RECORDS == 0) keep(&work);
+    while (goes_on(&work) && (next = next_record(&stream, &bytes, &length)) == A_RECORD) {
+        take(&work, bytes, length);
+        if (goes_on(&work) && work.appended - work.kept >= KEEP_RECORDS) keep(&work);
     }
-    if (work.error == 0 || number == STORE_FULL) {
-        int full = work.error;
-        work.error = 0;
-        if (keep(&work) == 0) work.error = full;
-        else number = KEEPER_DONE;
-    }
+    keep_rest(&work);
     tell(&work);
-    int status = say_end(&work, &stream, next, number);
+    int status = say_end(&work, &stream, next);
     if (status == DONE) store_stays(&work.log);
     store_close(&work.log);
     return status;

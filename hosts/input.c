@@ -51,10 +51,13 @@ int try_input(Input *input, const char *path, size_t most) {
     return length < 0 ? -1 : 0;
 }
 
-void read_input(Input *input, const char *path, size_t most) {
-    if (try_input(input, path, most) == 0) return;
+void fail_unread(const char *path) {
     if (path) fail("cannot read %s: %s", path, strerror(errno));
     fail("cannot read standard input: %s", errno == EBADF ? "it is closed" : strerror(errno));
+}
+
+void read_input(Input *input, const char *path, size_t most) {
+    if (try_input(input, path, most) != 0) fail_unread(path);
 }
 
 /* A log, its records and its index begin with one name. */

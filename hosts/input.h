@@ -13,9 +13,11 @@ typedef struct {
     size_t length;
 } Input;
 
-/* A file, or standard input where the path is NULL, up to so many bytes. The first fails, with words; the second returns 0, or -1 with errno. */
+/* A file, or standard input where the path is NULL, up to so many bytes. The first fails, with words; the second returns 0, or -1 with errno, and the
+   third has the words for that. */
 void read_input(Input *input, const char *path, size_t most);
 int try_input(Input *input, const char *path, size_t most);
+_Noreturn void fail_unread(const char *path);
 
 /* The same into bytes of the caller's own, and nowhere else: how many came, or -1 with errno. */
 ssize_t try_bytes(const char *path, uint8_t *bytes, size_t most);

@@ -5,6 +5,7 @@
 #include "commands.h"
 #include "key.h"
 #include "options.h"
+#include "progress.h"
 #include "say.h"
 #include "start.h"
 
@@ -43,6 +44,7 @@ static const char usage[] =
     "root, letter and find take --size N: the log as it was at that size. Every command takes --json: one object, as keeper(1) has it.\n"
     "All that work on a log or a letter take --key FILE, of exactly 32 bytes, - for standard input: the log is keyed, from its first append on.\n"
     "info tells of a keyed log without the key too.\n"
+    "append, verify and root --records say on a terminal every second how far they are; with --quiet they do not.\n"
     "LOG is a file, made by the first append. Files and folders are appended whole or not at all; of a stream all is kept\n"
     "that came in whole. Exit status: 0 done; 1 refused, with the number of the rules; 2 wrong use, or something failed;\n"
     "3 another program appends to the log.\n";
@@ -65,13 +67,13 @@ static const struct {
     const char *word, *takes;
     int (*run)(const Asked *asked);
 } commands[] = {
-    {"append", "--stream --folder --acknowledge --keep-records --wait --key", append},
-    {"root", "--size --bytes --records --folder --stream --key", root},
+    {"append", "--stream --folder --acknowledge --keep-records --wait --quiet --key", append},
+    {"root", "--size --bytes --records --folder --stream --quiet --key", root},
     {"info", "--key", info},
     {"letter", "--size --record --key", write_letter},
     {"check", "--show --record --records-to --page --key", check},
     {"find", "--size --key", find},
-    {"verify", "--records --key", verify},
+    {"verify", "--records --quiet --key", verify},
     {"repair", "--wait --key", repair},
     {"help", "", help},
     {"--help", "", help},
@@ -87,6 +89,7 @@ int main(int count, char **words) {
         Asked asked = {.command = commands[i].word + strspn(commands[i].word, "-")};
         take_options(&asked, commands[i].takes, count - 2, words + 2);
         if (asked.help) return answer_end(help(&asked));
+        if (asked.quiet) progress_quiet();
         int status = take_key(asked.key);
         if (status == DONE) status = commands[i].run(&asked);
         forget_key();

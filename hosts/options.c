@@ -27,7 +27,7 @@ typedef struct {
 #define VALUE(NAME, FIELD) {NAME, 0, offsetof(Asked, FIELD)}
 static const Option options[] = {
     FLAG("--json", json), FLAG("--help", help), FLAG("-h", help), FLAG("--bytes", bytes), FLAG("--stream", stream),
-    FLAG("--acknowledge", acknowledge), FLAG("--keep-records", keep_records), FLAG("--show", show), FLAG("--records", records),
+    FLAG("--acknowledge", acknowledge), FLAG("--keep-records", keep_records), FLAG("--show", show), FLAG("--records", records), FLAG("--quiet", quiet),
     VALUE("--folder", folder), VALUE("--size", size), VALUE("--record", record), VALUE("--records-to", records_to), VALUE("--page", page),
     VALUE("--wait", wait), VALUE("--key", key),
 };

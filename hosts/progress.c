@@ -1,12 +1,12 @@
-/* How far a long work is, on standard error: every second on a terminal, in one line, and every ten seconds elsewhere. */
+/* How far a long work is, on standard error where that is a terminal: every second, in one line. */
 #include <inttypes.h>
 #include <stdio.h>
 #include <time.h>
 #include <unistd.h>
 #include "progress.h"
 
-/* whether the terminal stands at the beginning of a line of progress */
-static int line_is_open;
+/* whether the terminal stands at the beginning of a line of progress; whether it is to have none */
+static int line_is_open, is_quiet;
 
 double seconds(void) {
     struct timespec t;
@@ -14,18 +14,23 @@ double seconds(void) {
     return (double)t.tv_sec + (double)t.tv_nsec / 1e9;
 }
 
-void progress_begin(Progress *progress) {
+void progress_quiet(void) { is_quiet = 1; }
+
+void progress_begin(Progress *progress, uint64_t total) {
     progress->begun = progress->told = seconds();
-    progress->terminal = isatty(STDERR_FILENO);
+    progress->total = total;
+    progress->shown = !is_quiet && isatty(STDERR_FILENO);
 }
 
-void progress_tell(Progress *progress, const char *what, uint64_t done, uint64_t bytes) {
-    double at = seconds();
-    if (at - progress->told < (progress->terminal ? 1 : 10)) return;
+void progress_tell(Progress *progress, uint64_t records, uint64_t bytes) {
+    char all[32] = "";
+    double at = progress->shown ? seconds() : progress->told;
+    if (at - progress->told < 1) return;
     progress->told = at;
-    fprintf(stderr, "keeper: %" PRIu64 " %s, %.1f MB, %.0f %s a second%s", done, what, (double)bytes / 1e6,
-            (double)done / (at - progress->begun), what, progress->terminal ? "   \r" : "\n");
-    line_is_open = progress->terminal;
+    if (progress->total > 0) snprintf(all, sizeof all, " of %" PRIu64, progress->total);
+    fprintf(stderr, "keeper: %" PRIu64 "%s records, %.1f MB, %.0f records a second   \r", records, all, (double)bytes / 1e6,
+            (double)records / (at - progress->begun));
+    line_is_open = 1;
 }
 
 void progress_end(void) {

@@ -1,18 +1,22 @@
-/* How far a long work is, on standard error: every second on a terminal, in one line, and every ten seconds elsewhere. */
+/* How far a long work is, on standard error where that is a terminal: every second, in one line. */
 #ifndef PROGRESS_H
 #define PROGRESS_H
 #include <stdint.h>
 
 typedef struct {
     double begun, told;
-    int terminal;
+    uint64_t total; /* how many records there are, 0 where nobody knows */
+    int shown;
 } Progress;
 
 /* Seconds of a clock that only goes forward. */
 double seconds(void);
 
-void progress_begin(Progress *progress);
-void progress_tell(Progress *progress, const char *what, uint64_t done, uint64_t bytes);
+/* From now on nothing is shown, on a terminal neither. */
+void progress_quiet(void);
+
+void progress_begin(Progress *progress, uint64_t total);
+void progress_tell(Progress *progress, uint64_t records, uint64_t bytes);
 
 /* Ends the line of progress, where one is open. */
 void progress_end(void);

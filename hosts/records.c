@@ -141,18 +141,20 @@ void records_close(Records *records) {
 
 /* ---- records */
 
-int records_room(Records *records, size_t length) {
+int records_room(Records *records, const Joined *joined) {
     if (!records->open) return 0;
-    if (map_longer(&records->ends, HEAD + END * (records->count + 1)) != 0) return -1;
-    return map_longer(&records->bytes, HEAD + records->end + length);
+    if (map_longer(&records->ends, HEAD + END * (records->count + joined->count)) != 0) return -1;
+    return map_longer(&records->bytes, HEAD + records->end + joined->length);
 }
 
-void records_add(Records *records, const uint8_t *record, size_t length) {
+void records_add(Records *records, const Joined *joined) {
     if (!records->open) return;
-    if (length > 0) memcpy(records->bytes.bytes + HEAD + records->end, record, length);
-    records->end += length;
-    put_at(records->ends.bytes + HEAD + END * records->count, records->end);
-    records->count++;
+    if (joined->length > 0) memcpy(records->bytes.bytes + HEAD + records->end, joined->bytes, joined->length);
+    for (size_t i = 0; i < joined->count; i++) {
+        records->end += joined->lengths[i];
+        put_at(records->ends.bytes + HEAD + END * records->count, records->end);
+        records->count++;
+    }
 }
 
 int records_keep(Records *records) {

@@ -1,6 +1,7 @@
 /* The records beside a log, where they were asked for: the bytes in LOG.records, and in LOG.index where each ends. */
 #ifndef RECORDS_H
 #define RECORDS_H
+#include "batch.h"
 #include "input.h"
 #include "mapped.h"
 
@@ -18,9 +19,9 @@ typedef struct {
    files do not fit the log. */
 void records_open(Records *records, const char *log, uint64_t leaves, int writing, int asked);
 
-/* Room for one more record of that length: 0, or -1 with errno. The record itself, which is not kept yet. */
-int records_room(Records *records, size_t length);
-void records_add(Records *records, const uint8_t *record, size_t length);
+/* Room for these records behind the others: 0, or -1 with errno. The records themselves, which are not kept yet. */
+int records_room(Records *records, const Joined *joined);
+void records_add(Records *records, const Joined *joined);
 
 /* What was added is on disk when this returns: 0, or -1 with errno. */
 int records_keep(Records *records);

@@ -94,7 +94,7 @@ typedef struct {
 static int add(Work *work, const uint8_t *bytes, size_t length, const char *path) {
     uint32_t number = plain_add(&work->plain, bytes, length);
     work->bytes += length;
-    progress_tell(&work->progress, "records", work->plain.count, work->bytes);
+    progress_tell(&work->progress, work->plain.count, work->bytes);
     if (number == KEEPER_DONE) return DONE;
     if (path) note("%s cannot be taken for a record, and so no root was worked out; a log is named before --records", path);
     else note("the record of index %" PRIu64 " cannot be taken, and so no root was worked out", work->plain.count);
@@ -184,7 +184,7 @@ static int add_all(Work *work, const Asked *asked, Store *log, uint64_t kept) {
 static int take_records(const Asked *asked, Store *log, uint64_t logged, Rooted *rooted) {
     Work work = {0};
     plain_begin(&work.plain, mode_taken());
-    progress_begin(&work.progress);
+    progress_begin(&work.progress, are_kept(asked) ? logged : (uint64_t)files_named(asked));
     watch_for_stop();
     int status = add_all(&work, asked, log, logged);
     progress_end();

@@ -1,11 +1,11 @@
 /* A log's node file: the nodes in a memory map, the size beside them, safe against a crash.
 
    The file has two pages with a size and its root, each written twice (sizes.h), and then the nodes, the one at position p from byte 8192 + 32p on.
-   What is appended becomes part of the log in five steps:
+   What is appended becomes part of the log in five steps, of which the first two are made for each batch of records, in one order or the other:
 
      step                                                   what a crash during it leaves
      1 the files grow, where there is no room               bytes behind the size, which mean nothing
-     2 keeper_append writes nodes behind the size           the same
+     2 keeper_append_many writes nodes behind the size      the same
      3 msync: records, where they are kept, and nodes       the same
      4 the page not in use gets the new size, twice         copies of the new size, with its nodes, of the size before the last, or one torn; the
                                                             other page whole, with the old size
@@ -262,15 +262,42 @@ void store_close(Store *store) {
 
 /* ---- appends */
 
-uint32_t store_append(Store *store, const uint8_t *record, size_t length) {
-    uint64_t hashes;
+/* Room for the nodes of so many more records: the library's number, or STORE_FULL. */
+static uint32_t make_room(Store *store, size_t count) {
+    uint64_t size;
+    uint32_t number = keeper_size(store_leaves(store) + count, &size);
+    if (number != KEEPER_DONE) return number;
+    return map_longer(&store->file, SIZES + NODE * size) == 0 ? KEEPER_DONE : STORE_FULL;
+}
+
+/* All of them or none. Where the nodes are written and the records have no room, the size stays, and what is behind it means nothing. */
+static uint32_t append_all(Store *store, const Joined *joined) {
+    uint64_t size, hashes;
     uint32_t number;
-    if (length <= LONGEST_RECORD && records_room(&store->records, length) != 0) return STORE_FULL;
-    while ((number = keeper_append(store->mode, store->size, record, length, store_nodes(store), store_room(store), &store->size, &hashes)) ==
-           KEEPER_NODES_TOO_SHORT)
-        if (map_longer(&store->file, store->file.length + 1) != 0) return STORE_FULL;
-    if (number == KEEPER_DONE) records_add(&store->records, record, length);
-    return number;
+    while ((number = keeper_append_many(store->mode, store->size, joined->bytes, joined->length, joined->lengths, joined->count, store_nodes(store),
+                                        store_room(store), &size, &hashes)) == KEEPER_NODES_TOO_SHORT)
+        if ((number = make_room(store, joined->count)) != KEEPER_DONE) return number;
+    if (number != KEEPER_DONE) return number;
+    if (records_room(&store->records, joined) != 0) return STORE_FULL;
+    store->size = size;
+    records_add(&store->records, joined);
+    return KEEPER_DONE;
+}
+
+/* Of a batch that is not appended whole the records are appended one by one, unless its lengths cut none: so the first that is not is found, and has
+   its own number. */
+uint32_t store_append(Store *store, const Joined *joined, size_t *appended) {
+    uint32_t number = append_all(store, joined);
+    *appended = number == KEEPER_DONE ? joined->count : 0;
+    if (number == KEEPER_DONE || number == KEEPER_LENGTHS_OFF) return number;
+    Joined one = {.bytes = joined->bytes, .count = 1};
+    for (; *appended < joined->count; ++*appended) {
+        one.lengths = joined->lengths + *appended;
+        one.length = *one.lengths;
+        if ((number = append_all(store, &one)) != KEEPER_DONE) return number;
+        one.bytes += one.length;
+    }
+    return KEEPER_DONE;
 }
 
 static int write_page(Store *store, const State *state, int which) {

@@ -43,9 +43,10 @@ uint64_t store_leaves(const Store *store);
 int nodes_there(const Store *store, const State *state);
 void what_is_wrong(const Store *store, const State *state, char *words, size_t room);
 
-/* One more record, not kept yet: the library's number, and where there is no room for it STORE_FULL, with errno. */
+/* These records, not kept yet, up to the first that is refused or has no room: how many are appended, and the library's number of that one, or
+   STORE_FULL, with errno. */
 enum { STORE_FULL = 1 << 16 };
-uint32_t store_append(Store *store, const uint8_t *record, size_t length);
+uint32_t store_append(Store *store, const Joined *joined, size_t *appended);
 
 /* What was appended is on disk when this returns: 0, or -1 with errno, and then the log is as it was last kept. */
 int store_keep(Store *store);

@@ -24,7 +24,7 @@ static int wrong_leaf(const Store *log, uint64_t index) {
 /* What is wrong lowest, among the leaves that are looked at and the inner nodes: whether there is something. */
 static int lowest_wrong(const Store *log, uint64_t leaves, int with_records, Wrong *wrong, int *is_leaf) {
     Progress progress;
-    progress_begin(&progress);
+    progress_begin(&progress, leaves);
     for (uint64_t from = 0, to; from < leaves; from = to) {
         to = leaves - from > TOGETHER ? from + TOGETHER : leaves;
         int inner = wrong_among(log->mode, store_nodes(log), from, to, wrong);
@@ -35,7 +35,7 @@ static int lowest_wrong(const Store *log, uint64_t leaves, int with_records, Wro
             return 1;
         }
         if (inner) return 1;
-        progress_tell(&progress, "records", to, NODE * place_of(to - 1, 0));
+        progress_tell(&progress, to, NODE * place_of(to - 1, 0));
     }
     progress_end();
     return 0;

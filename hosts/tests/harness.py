@@ -4,6 +4,7 @@ KEEPER is the program; LOSSY the same on a disk that loses what was not synced (
 tries scripts and not the host is left out. KEYED says that every log is keyed: the two programs get --key, and what they say is held to the keyed rules.
 """
 import atexit
+import errno
 import functools
 import json
 import os
@@ -103,6 +104,18 @@ def stream_of(records):
 def flipped(data, place):
     """The bytes with one bit changed."""
     return data[:place] + bytes([data[place] ^ 1]) + data[place + 1:]
+
+
+def read_by_now(pipe):
+    """A named pipe, to be written to, as soon as a program has opened it to read, up to ten seconds."""
+    until = time.monotonic() + 10
+    while True:
+        try:
+            return os.fdopen(os.open(pipe, os.O_WRONLY | os.O_NONBLOCK), "wb")
+        except OSError as error:
+            if error.errno != errno.ENXIO or time.monotonic() > until:
+                raise
+        time.sleep(0.01)
 
 
 def keeper(*words, given=b"", **options):

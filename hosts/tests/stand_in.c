@@ -135,18 +135,38 @@ uint32_t keeper_leaf_count(uint64_t size, uint64_t *leaves) {
     return KEEPER_DONE;
 }
 
-uint32_t keeper_append(const keeper_mode *mode, uint64_t size, const uint8_t *record, size_t record_len, uint8_t *nodes, size_t nodes_len, uint64_t *new_size,
-                       uint64_t *hashes) {
-    uint64_t leaves, at = size;
-    if (keeper_leaf_count(size, &leaves) != KEEPER_DONE) return KEEPER_NO_SUCH_SIZE;
-    if (leaves == most) return KEEPER_TOO_MANY_LEAVES;
-    if (record_len > LONGEST) return KEEPER_RECORD_TOO_LONG;
-    if (nodes_len / NODE < size_of(leaves + 1)) return KEEPER_NODES_TOO_SHORT;
+/* The leaf of a record behind so many others, and the parents that are whole with it. */
+static void write_record(const keeper_mode *mode, uint64_t leaves, const uint8_t *record, size_t record_len, uint8_t *nodes) {
+    uint64_t at = size_of(leaves);
     digest(mode, record, record_len, nodes + NODE * at);
     for (unsigned height = 1; leaves >> (height - 1) & 1; height++, at++)
         digest_pair(mode, nodes + NODE * (at + 1 - ((uint64_t)1 << height)), nodes + NODE * at, nodes + NODE * (at + 1));
-    *new_size = at + 1;
-    *hashes = at + 1 - size;
+}
+
+/* What appending one record behind so many others would be refused with. */
+static uint32_t refusal_of(uint64_t leaves, uint32_t record_len, size_t nodes_len) {
+    if (leaves == most) return KEEPER_TOO_MANY_LEAVES;
+    if (record_len > LONGEST) return KEEPER_RECORD_TOO_LONG;
+    return nodes_len / NODE < size_of(leaves + 1) ? KEEPER_NODES_TOO_SHORT : KEEPER_DONE;
+}
+
+static int add_up_to(const uint32_t *lengths, size_t count, size_t left) {
+    for (size_t i = 0; i < count; left -= lengths[i++])
+        if (lengths[i] > left) return 0;
+    return left == 0;
+}
+
+uint32_t keeper_append_many(const keeper_mode *mode, uint64_t size, const uint8_t *records, size_t records_len, const uint32_t *lengths,
+                            size_t lengths_count, uint8_t *nodes, size_t nodes_len, uint64_t *new_size, uint64_t *hashes) {
+    uint64_t leaves;
+    uint32_t number;
+    if (keeper_leaf_count(size, &leaves) != KEEPER_DONE) return KEEPER_NO_SUCH_SIZE;
+    if (!add_up_to(lengths, lengths_count, records_len)) return KEEPER_LENGTHS_OFF;
+    for (size_t i = 0; i < lengths_count; i++)
+        if ((number = refusal_of(leaves + i, lengths[i], nodes_len)) != KEEPER_DONE) return number;
+    for (size_t i = 0; i < lengths_count; records += lengths[i++]) write_record(mode, leaves + i, records, lengths[i], nodes);
+    *new_size = size_of(leaves + lengths_count);
+    *hashes = *new_size - size;
     return KEEPER_DONE;
 }
 

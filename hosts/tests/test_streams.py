@@ -141,6 +141,20 @@ class Acknowledge(HostTest):
         self.assertEqual(out, b"appended 5 records, index 0 to 4; size 8, hashes 8\n")
         self.assertEqual(writer.returncode, 0)
 
+    def test_without_a_pause(self):
+        """A sender that never stops for long, and has not sent a batch: what came in is on disk after a second, and is acknowledged."""
+        sent, until = 0, time.monotonic() + 1.5
+        with subprocess.Popen([KEEPER, "append", self.log, "--stream", "--acknowledge"], stdin=subprocess.PIPE, stdout=subprocess.PIPE) as writer:
+            while time.monotonic() < until:
+                writer.stdin.write(stream_of([b"call"]))
+                writer.stdin.flush()
+                sent += 1
+                time.sleep(0.002)
+            out, _ = writer.communicate()
+        kept = [int(line.split()[3]) for line in out.splitlines() if line.startswith(b"kept: ")]
+        self.assertTrue(0 < kept[0] < kept[-1] == sent, kept)
+        self.holds([b"call"] * sent)
+
 
 class FullDisk(HostTest):
     def at_most(self, length):

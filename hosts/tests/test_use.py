@@ -12,7 +12,8 @@ class WrongUse(HostTest):
                       ("append", self.log, "--stream", "--folder", "x"), ("append", self.log, "file", "--stream"), ("root", self.log, "--bytes", "--json"),
                       ("check", 1), ("check", 1, "00", "--record"), ("check", 1, "00", "letter", "--page", "x"), ("find", self.log), ("letter", self.log),
                       ("repair", self.log), ("verify", self.log, "--size", "1"), ("verify", self.log, "--stream"), ("root", "--records"),
-                      ("root", self.log, "--stream"), ("root", self.log, "file", "--records"), ("--stream",)):
+                      ("root", self.log, "--stream"), ("root", self.log, "file", "--records"), ("--stream",), ("append", self.log, "--quiet=1"),
+                      ("info", self.log, "--quiet"), ("letter", self.log, "0", "--quiet"), ("repair", self.log, "copy", "--quiet")):
             ran = keeper(*words)
             self.assertEqual(ran.returncode, 2, words)
             self.assertIn(b"wrong use", ran.stderr)
