@@ -5,6 +5,7 @@ tries scripts and not the host is left out. KEYED says that every log is keyed: 
 """
 import atexit
 import errno
+import fcntl
 import functools
 import json
 import os
@@ -13,6 +14,7 @@ import struct
 import subprocess
 import sys
 import tempfile
+import termios
 import time
 import unittest
 from pathlib import Path
@@ -116,6 +118,16 @@ def read_by_now(pipe):
             if error.errno != errno.ENXIO or time.monotonic() > until:
                 raise
         time.sleep(0.01)
+
+
+def taken_by_now(pipe):
+    """Whether a program has taken all that was written to a pipe, up to ten seconds: it has begun, and reads."""
+    until = time.monotonic() + 10
+    while struct.unpack("i", fcntl.ioctl(pipe, termios.FIONREAD, bytes(4)))[0] > 0:
+        if time.monotonic() > until:
+            return False
+        time.sleep(0.01)
+    return True
 
 
 def keeper(*words, given=b"", **options):

@@ -1,13 +1,14 @@
 """Standard streams that are closed or full, signals, a full disk; and that what is on disk is said."""
 import os
 import resource
+import select
 import signal
 import subprocess
 import tempfile
 import time
 import unittest
 
-from harness import KEEPER, RECORDS, HostTest, keeper, letter_of, nodes_of, said_of, stream_of
+from harness import KEEPER, RECORDS, HostTest, keeper, letter_of, nodes_of, said_of, stream_of, taken_by_now
 
 
 def closing(*streams):
@@ -121,7 +122,7 @@ class Signals(HostTest):
             with subprocess.Popen([KEEPER, "append", self.log, *words], stdin=subprocess.PIPE, stdout=subprocess.PIPE, stderr=subprocess.PIPE) as writer:
                 writer.stdin.write(b"\0\0")
                 writer.stdin.flush()
-                time.sleep(0.5)
+                self.assertTrue(taken_by_now(writer.stdin))
                 writer.send_signal(signal.SIGTERM)
                 _, err = writer.communicate()
             self.assertEqual(writer.returncode, 2)
@@ -143,17 +144,17 @@ class Acknowledge(HostTest):
 
     def test_without_a_pause(self):
         """A sender that never stops for long, and has not sent a batch: what came in is on disk after a second, and is acknowledged."""
-        sent, until = 0, time.monotonic() + 1.5
+        sent, until = 0, time.monotonic() + 20
         with subprocess.Popen([KEEPER, "append", self.log, "--stream", "--acknowledge"], stdin=subprocess.PIPE, stdout=subprocess.PIPE) as writer:
-            while time.monotonic() < until:
+            while not select.select([writer.stdout], [], [], 0.002)[0] and time.monotonic() < until:
                 writer.stdin.write(stream_of([b"call"]))
                 writer.stdin.flush()
                 sent += 1
-                time.sleep(0.002)
-            out, _ = writer.communicate()
+            self.assertLess(time.monotonic(), until)
+            out, _ = writer.communicate(stream_of([b"call"]))
         kept = [int(line.split()[3]) for line in out.splitlines() if line.startswith(b"kept: ")]
-        self.assertTrue(0 < kept[0] < kept[-1] == sent, kept)
-        self.holds([b"call"] * sent)
+        self.assertTrue(0 < kept[0] <= sent < kept[-1], kept)
+        self.holds([b"call"] * (sent + 1))
 
 
 class FullDisk(HostTest):
