@@ -5,7 +5,7 @@ use mathlib.Core.List.{List}
 use Prim.Native.Nat.{ℕ, zero, suc}
 use Rattle.words.specs.Words.{wordsOf}
 use Rattle.blake.specs.Blake.{digested, plainHash, keyedHash, keyedFlag, hashIn}
-use Rattle.blake.specs.Steps.{wordsIn, flagIn}
+use Rattle.blake.specs.Modes.{wordsIn, flagIn}
 
 pub words-keyed : (keyed : ℕ) (key : List ℕ) → keyed ≢ 0 → wordsOf 8 key ≡ wordsIn keyed key
 unfolding wordsIn

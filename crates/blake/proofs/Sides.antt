@@ -25,7 +25,7 @@ module _ (key : List ℕ) (flag root n : ℕ) (bs : List ℕ) where
   sides k = parented key flag root (treed k key flag 0 n (take (1024 * 2 ^ k) bs)) (treed k key flag 0 (n + 2 ^ k) (drop (1024 * 2 ^ k) bs))
 
   -- what fits under the left side alone is that side
-  short-suc : (k : ℕ) → length bs ≤ 1024 * 2 ^ k → treed k key flag root n bs ≡ treed (suc k) key flag root n bs
+  pub short-suc : (k : ℕ) → length bs ≤ 1024 * 2 ^ k → treed k key flag root n bs ≡ treed (suc k) key flag root n bs
   unfolding treed
   short-suc k l = rw (le-leb (length bs) (1024 * 2 ^ k) l, treed)
 
@@ -36,7 +36,7 @@ module _ (key : List ℕ) (flag root n : ℕ) (bs : List ℕ) where
       ∙ short-suc k (subst (λ (j : ℕ). length bs ≤ 1024 * 2 ^ j) (sub-one (suc k)) l)
 
   -- what does not is a parent
-  long-suc : (k : ℕ) → 1024 * 2 ^ k < length bs → sides k ≡ treed (suc k) key flag root n bs
+  pub long-suc : (k : ℕ) → 1024 * 2 ^ k < length bs → sides k ≡ treed (suc k) key flag root n bs
   unfolding treed
   long-suc k l = rw (lt-leb (length bs) (1024 * 2 ^ k) l, treed)
 

@@ -1,4 +1,4 @@
 -- Laws that the proofs of `src/tree.rt` cite.
-mod Four
+pub mod Four
 mod Pair
 mod Rooms

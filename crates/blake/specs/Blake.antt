@@ -1,9 +1,9 @@
 -- BLAKE3 with 32 bytes of output, from its chunks on, in the order of its public specification. Words are numbers below 2 ^ 32, bytes below 256.
 use mathlib.Core.List.{List, _++_}
-use mathlib.Core.Bool.{true, false}
+use mathlib.Core.Bool.{true, false, _&&_}
 use Prim.Native.Nat.{ℕ, zero, suc, _+_, _*_, _^_}
-use lib.ListN.{length, take, drop}
-use lib.Dec.{leb}
+use lib.ListN.{length, take, drop, replicate}
+use lib.Dec.{leb, eqb}
 use Rattle.compression.specs.Compression.{compressed, starting}
 use Rattle.words.specs.Words.{bytesOf, wordsOf}
 use Rattle.chunks.specs.Chunks.{chunked}
@@ -34,6 +34,11 @@ treed (suc h) key flag root n bs =
           (treed h key flag 0 n (take (1024 * 2 ^ h) bs))
           (treed h key flag 0 (n + 2 ^ h) (drop (1024 * 2 ^ h) bs))
     ]
+
+-- the tree over 4,096 bytes, four whole chunks of numbers below 2 ^ 54; zeros for other lengths and numbers
+unfoldable pub treed4 : List ℕ → ℕ → ℕ → ℕ → List ℕ → List ℕ
+treed4 key flag root n bs =
+    elim (leb (n + 4) (2 ^ 54) && eqb (length bs) 4096) [ true ↦ treed 2 key flag root n bs | false ↦ replicate 8 0 ]
 
 -- the tree over all chunks; a list of k bytes has at most 2 ^ k (`Rule` says this as the specification does)
 unfoldable pub treeOf : List ℕ → ℕ → ℕ → ℕ → List ℕ → List ℕ

@@ -4,7 +4,7 @@ use chunks::CHUNK_START;
 
 pub(crate) const PARENT: u32 = 4;
 
-pub(crate) const ROOT: u8 = 8;
+pub const ROOT: u8 = 8;
 
 pub(crate) const KEYED: u8 = 16;
 

@@ -2,10 +2,10 @@
 ghost use mathlib.Core.Path.{_≡_};
 ghost use mathlib.Core.List.{_++_};
 ghost use Rattle.blake.specs.Blake.{hashIn};
-ghost use Rattle.blake.specs.Steps.{wordsIn, flagIn};
+ghost use Rattle.blake.specs.Modes.{wordsIn, flagIn};
 
-mod flags;
-mod tree;
+pub mod flags;
+pub mod tree;
 
 use compression::compress::START;
 use words::load_half;
@@ -21,7 +21,7 @@ fn words_in(keyed: u32, key: &[u8; 32]) -> [u32; 8]
 }
 
 // The flag on every compression.
-fn flag_in(keyed: u32) -> u8
+pub fn flag_in(keyed: u32) -> u8
     ensures { λ r. ⌜ r ≡ flagIn keyed ⌝ }
 {
     if keyed == 0 {

@@ -3,12 +3,13 @@ ghost use mathlib.Core.Path.{_≡_};
 ghost use mathlib.Core.List.{_++_};
 ghost use Prim.Native.Nat.{_+_, _*_, _^_, _<_, _≤_};
 ghost use lib.ListN.{length};
-ghost use Rattle.blake.specs.Blake.{parented, treed, digested};
+ghost use Rattle.blake.specs.Blake.{parented, treed, treed4, digested};
 ghost use Rattle.blake.specs.Steps.{Room};
 use crate::flags::ONLY_BLOCK;
 use crate::flags::PARENT;
 use crate::flags::ROOT;
 use chunks::chunk;
+use chunks::lane::MOST_FIRST;
 use chunks::lane::chunk4;
 use chunks::lane::lane;
 use compression::compress::compress;
@@ -17,17 +18,19 @@ use words::load_half;
 use words::unload;
 
 // A parent of two chaining values.
-fn parent(key: [u32; 8], flag: u8, root: u8, l: [u32; 8], r: [u32; 8]) -> [u32; 8]
+pub fn parent(key: [u32; 8], flag: u8, root: u8, l: [u32; 8], r: [u32; 8]) -> [u32; 8]
     ensures { λ v. ⌜ v ≡ parented key flag root l r ⌝ }
 {
     compress(key, join(l, r), 0, 64, flag as u32 + PARENT + root as u32)
 }
 
-// The tree over four whole chunks.
-fn quad(key: [u32; 8], flag: u8, root: u8, n: u64, bytes: &[u8]) -> [u32; 8]
-    requires { ⌜ (length (now bytes) ≡ 4096) × (n + 4 ≤ 2 ^ 54) ⌝ }
-    ensures { λ r. ⌜ r ≡ treed 2 key flag root n (now (bytes .entry)) ⌝ }
+// The tree over four whole chunks, the first of number n: zeros for another length than 4,096 bytes, and for a number above MOST_FIRST.
+pub fn quad(key: [u32; 8], flag: u8, root: u8, n: u64, bytes: &[u8]) -> [u32; 8]
+    ensures { λ r. ⌜ r ≡ treed4 key flag root n (now (bytes .entry)) ⌝ }
 {
+    if bytes.len() != 4096 || MOST_FIRST < n {
+        return [0u32; 8];
+    }
     let v = chunk4(key, flag, n, bytes);
     let a = parent(key, flag, 0, lane(&v, 0), lane(&v, 1));
     let b = parent(key, flag, 0, lane(&v, 2), lane(&v, 3));

@@ -11,7 +11,7 @@ use compression::compress::compress_lane;
 use words::load;
 
 // The last number, 2^54 - 4, from which four chunks are counted: no slice has more chunks than 2^54.
-const MOST_FIRST: u64 = 18014398509481980;
+pub const MOST_FIRST: u64 = 18014398509481980;
 
 // Lane k of four, counted round: lane 4 is lane 0 again.
 pub fn lane(v: &[u32; 32], k: usize) -> [u32; 8]

@@ -42,11 +42,11 @@ pub fits : (d out y : List ℕ) → length d ≡ 32 → 32 ≤ length out → y 
 fits d out y l h w = w ∙ written-fits 0 d out (omega arith)
 
 -- the output is short; the digest is written
-handed-short : (d out : List ℕ) → length out < 32 → filled 6 out ≡ handed d out
+pub handed-short : (d out : List ℕ) → length out < 32 → filled 6 out ≡ handed d out
 unfolding handed
 handed-short d out h = refuses 6 _ _ _ refl (search needs)
 
-handed-done : (d out y : List ℕ) → length d ≡ 32 → 32 ≤ length out → y ≡ written 0 d out → filled 0 y ≡ handed d out
+pub handed-done : (d out y : List ℕ) → length d ≡ 32 → 32 ≤ length out → y ≡ written 0 d out → filled 0 y ≡ handed d out
 unfolding handed
 handed-done d out y l h w = passes _ _ _ (ap (filled 0) (fits d out y l h w)) (search needs)
 

@@ -5,4 +5,5 @@ mod Modes
 mod Nodes
 mod Letters
 mod Finder
+mod Parts
 pub mod Only

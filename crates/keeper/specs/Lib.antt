@@ -4,3 +4,4 @@ pub mod Modes
 pub mod Nodes
 pub mod Letters
 pub mod Finder
+pub mod Parts

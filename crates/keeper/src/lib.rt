@@ -7,6 +7,9 @@ ghost use Rattle.keeper.specs.Modes.{plainCall, keyedCall};
 ghost use Rattle.keeper.specs.Nodes.{storeLeafCall, storeInnerCall, readLeft, readCall};
 ghost use Rattle.keeper.specs.Letters.{letterWriteCall, checkLeft, letterCheckCall};
 ghost use Rattle.keeper.specs.Finder.{findLeft, findCall};
+
+pub mod parts_c;
+
 use shape::Counted;
 use shape::Placed;
 use shape::Sized;

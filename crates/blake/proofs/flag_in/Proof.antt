@@ -1,6 +1,6 @@
 -- Number 0 has no flag, and any other the keyed hash's.
 use mathlib.Core.Path.{sym, ap}
-use Rattle.blake.specs.Steps.{flagIn}
+use Rattle.blake.specs.Modes.{flagIn}
 use Rattle.blake.proofs.Modes.{flag-keyed}
 use Rattle.blake.proofs.flag_in.Statement.{statement}
 use Rattle.blake.proofs.flag_in.Tie as tie

@@ -1,9 +1,12 @@
 -- The tree over four whole chunks, from their lanes.
 use mathlib.Core.Path.{_≡_, refl, sym, ap, ap₂, _∙_}
+use mathlib.Core.Logic.{by-cases}
 use mathlib.Core.List.{List}
 use Prim.Native.Nat.{ℕ, _+_, _-_, _≤_, _<_, _^_}
+use native.Mathlib.Decide.{decLe}
 use native.Mathlib.Omega.{arith}
-use lib.ListN.{length, take, drop, length-drop}
+use borrow.Author.Tests.{eq-eqb, ne-eqb, le-leb, lt-leb}
+use lib.ListN.{length, take, drop, length-drop, replicate}
 use lib.Seq.{take-all, take-take, drop-drop, length-take-le}
 use Rattle.chunks.specs.Chunks.{chunked}
 use Rattle.chunks.specs.Lanes.{laneOf, chunkIn, chunked4}
@@ -11,7 +14,7 @@ use Rattle.chunks.proofs.Lengths.{chunked-length}
 use Rattle.chunks.proofs.Laned.{lane-laned}
 use Rattle.chunks.proofs.Parts.{drop-take}
 use Rattle.chunks.proofs.Answers.{chunked4-done}
-use Rattle.blake.specs.Blake.{parented, treed}
+use Rattle.blake.specs.Blake.{parented, treed, treed4}
 use Rattle.blake.proofs.Sides.{tree-long, tree-chunk}
 
 module _ (key : List ℕ) (flag n : ℕ) (bs : List ℕ) where
@@ -21,7 +24,7 @@ module _ (key : List ℕ) (flag n : ℕ) (bs : List ℕ) where
       ap₂ (parented key flag root) (tree-chunk 0 key flag 0 m (take 1024 l) refl) (tree-chunk 0 key flag 0 (m + 1) (drop 1024 l) refl)
       ∙ tree-long key flag root m l 1 (λ h. let z : 1 ≡ 0 = h in omega arith) (omega arith)
 
-  four : (root : ℕ) → length bs ≡ 4096
+  pub four : (root : ℕ) → length bs ≡ 4096
       → parented key flag root
       (parented key flag 0 (chunked key flag 0 (n + 0) (chunkIn bs 0)) (chunked key flag 0 (n + 1) (chunkIn bs 1)))
       (parented key flag 0 (chunked key flag 0 (n + 2) (chunkIn bs 2)) (chunked key flag 0 (n + 3) (chunkIn bs 3)))
@@ -53,3 +56,17 @@ module _ (key : List ℕ) (flag n : ℕ) (bs : List ℕ) where
       (ea ∙ ap₂ (parented key flag 0) (e0 ∙ is 0 (omega arith)) (e1 ∙ is 1 (omega arith)))
       (eb ∙ ap₂ (parented key flag 0) (e2 ∙ is 2 (omega arith)) (e3 ∙ is 3 (omega arith)))
       ∙ four root e
+
+-- ---- what `quad` answers where there are four whole chunks, and where there are not
+
+module _ (key : List ℕ) (flag root n : ℕ) (bs : List ℕ) where
+  pub treed4-done : n + 4 ≤ 2 ^ 54 → length bs ≡ 4096 → treed4 key flag root n bs ≡ treed 2 key flag root n bs
+  unfolding treed4
+  treed4-done l e = rw (le-leb (n + 4) (2 ^ 54) l, eq-eqb (length bs) 4096 e, treed4)
+
+  pub treed4-none : (n + 4 ≤ 2 ^ 54 → length bs ≡ 4096 → ⊥) → replicate 8 0 ≡ treed4 key flag root n bs
+  unfolding treed4
+  treed4-none h =
+      by-cases (decLe (n + 4) (2 ^ 54))
+      (λ l. rw (le-leb (n + 4) (2 ^ 54) l, ne-eqb (length bs) 4096 (h l), treed4))
+      (λ l. rw (lt-leb (n + 4) (2 ^ 54) (omega arith), treed4))

@@ -1,7 +1,7 @@
 -- Number 0 has the starting words, and any other the key's.
 use mathlib.Core.Path.{sym, ap, _∙_}
 use Prim.Native.Nat.{ℕ}
-use Rattle.blake.specs.Steps.{wordsIn}
+use Rattle.blake.specs.Modes.{wordsIn}
 use Rattle.blake.proofs.Modes.{words-keyed}
 use borrow.Author.Needs.{needs}
 use Rattle.blake.proofs.words_in.Statement.{statement}

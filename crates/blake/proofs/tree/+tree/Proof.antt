@@ -9,6 +9,7 @@ use borrow.Fn.Kinds.{In}
 use borrow.Fn.PlainCycle.{Measures, is, falls, and}
 use Rattle.blake.proofs.Sides.{tree-chunk, tree-same}
 use Rattle.blake.proofs.tree.Rooms.{room-some, room-short, room-left, room-right, room-quad, fits-short, fits-long}
+use Rattle.blake.proofs.tree.Four.{treed4-done}
 use Rattle.blake.proofs.tree.tree.Reads as tree
 use Rattle.blake.proofs.tree.tree.Kinds as tree-kinds
 use Rattle.blake.proofs.tree.+tree.Lts-tree as tree-lts
@@ -55,14 +56,13 @@ pub +tree-spec : {M : Type 1} → statement M
     ∙ tree-chunk 0 (k .key) (k .flag) (k .root) (k .n) (k .bytes .now) refl
     ∙ tree-same (k .key) (k .flag) (k .root) (k .n) (k .bytes .now) 0 (k .h) (omega (arith, c .before .if1 .taken)) (start .pre .1 .bytes))
     -- four whole chunks
-    (λ c κs.
-    let k = c .before .before .before .args in
-    let room = c .before .before .before .pre .1 in
-    (c .if2 .taken, room-quad (k .h) (k .n) (length (k .bytes .now)) room (c .if2 .taken)))
+    (λ c κs. search needs)
     (λ c.
     let start = c .before .before .before .before in
     let k = start .args in
+    let whole = c .before .if2 .taken in
     c .quad .ensures
+    ∙ treed4-done (k .key) (k .flag) (k .root) (k .n) (k .bytes .now) (room-quad (k .h) (k .n) (length (k .bytes .now)) (start .pre .1) whole) whole
     ∙ tree-same (k .key) (k .flag) (k .root) (k .n) (k .bytes .now) 2 (k .h) (omega (arith, c .before .if2 .taken)) (start .pre .1 .bytes))
     -- below
     (λ c. let s = some t (c .before) in omega (arith, s))

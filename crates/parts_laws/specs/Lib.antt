@@ -1,0 +1,2 @@
+-- Parts one behind the other.
+pub mod Cut
