@@ -10,6 +10,8 @@ use Rattle.keeper.specs.Calls.{answered, appendLeft, Filled, filled, wri
 use Rattle.keeper.specs.Nodes.{ReadLeft, readLeft}
 use Rattle.keeper.specs.Letters.{checkLeft}
 use Rattle.keeper.specs.Finder.{FindLeft, findLeft}
+use Rattle.parts.specs.declared.Parts.{Parts}
+use Rattle.keeper.specs.Parts.{PartsLeft, partsLeft}
 
 -- sizes, positions and counts: the number, and the result variable
 pub answered-only : (x : Answer) (m n v w : ℕ) → answered m v ≡ x → answered n w ≡ x → (m ≡ n) × (v ≡ w)
@@ -45,3 +47,7 @@ check-left-only x m n i j s t a b p q =
 pub find-left-only : (x : FindLeft) (m n f g : ℕ) (xs ys us vs : List ℕ) → findLeft m f xs ys ≡ x → findLeft n g us vs ≡ x
     → (m ≡ n) × (f ≡ g) × (xs ≡ us) × (ys ≡ vs)
 find-left-only x m n f g xs ys us vs p q = let e = p ∙ sym q in (λ i. e i .number, λ i. e i .found, λ i. e i .first, λ i. e i .second)
+
+-- a digest in parts begun, or a part more: the number, and the state
+pub parts-left-only : (x : PartsLeft) (m n : ℕ) (s t : Parts) → partsLeft m s ≡ x → partsLeft n t ≡ x → (m ≡ n) × (s ≡ t)
+parts-left-only x m n s t p q = let e = p ∙ sym q in (λ i. e i .number, λ i. e i .state)

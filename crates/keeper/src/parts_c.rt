@@ -1,4 +1,4 @@
-// The digest of input that arrives in parts, as C sees it. A struct behind a reference is not covered by the borrow checker: the three bodies are as small as they can be, and their proofs walk them.
+// The digest of input that arrives in parts, as C sees it. The state lies behind a pointer, and the proofs of the three calls walk their few steps by hand.
 ghost use mathlib.Core.Path.{_≡_};
 ghost use Rattle.keeper.specs.Calls.{filled};
 ghost use Rattle.keeper.specs.Parts.{partsLeft, beginCall, addCall, endCall};

@@ -5,33 +5,15 @@ use Prim.Native.Nat.{ℕ, zero, suc, _+_, _-_, _^_, _≤_, _<_}
 use native.Mathlib.Omega.{arith}
 use lib.ListN.{length}
 use Rattle.order.specs.Order.{firstNumber}
-use Rattle.order.proofs.Laws.{refuses, passes, first-is, first-none, clear}
+use Rattle.order.proofs.Laws.{refuses, passes, clear}
 use Rattle.parts_rule.specs.Run.{taken, ended}
+use Rattle.subtrees.specs.Counts.{countOrder}
+use Rattle.subtrees.proofs.Counted.{count-none}
 use Rattle.parts.specs.declared.Parts.{Parts}
 use Rattle.parts.specs.declared.Added.{Added}
 use Rattle.parts.specs.declared.Ended.{Ended}
-use Rattle.parts_rule.specs.Counts.{heldOf, stackedOf}
 use Rattle.parts.specs.State.{startOf, flagOf, Counted, runOf, stored}
-use Rattle.parts.specs.Answers.{countOrder, stateOrder, addOrder, addRefused, after, endRefused, addOutcome, endOutcome}
-
--- ---- the counts
-
-module _ (t h k : ℕ) where
-  pub count-limit : 2 ^ 40 < t → 17 ≡ firstNumber (countOrder t h k)
-  unfolding countOrder
-  count-limit l = first-is 17 _ (λ f. absurd (omega arith))
-
-  pub count-held : (h ≡ heldOf t → ⊥) → 17 ≡ firstNumber (countOrder t h k)
-  unfolding countOrder
-  count-held n = first-is 17 _ (λ f g. absurd (n g))
-
-  pub count-stacked : (k ≡ stackedOf t → ⊥) → 17 ≡ firstNumber (countOrder t h k)
-  unfolding countOrder
-  count-stacked n = first-is 17 _ (λ f g i. n i)
-
-  pub count-none : t ≤ 2 ^ 40 → h ≡ heldOf t → k ≡ stackedOf t → 0 ≡ firstNumber (countOrder t h k)
-  unfolding countOrder
-  count-none f g i = first-none _ (f, (g, (i, tt)))
+use Rattle.parts.specs.Answers.{stateOrder, addOrder, addRefused, after, endRefused, addOutcome, endOutcome}
 
 module _ (s : Parts) where
   pub is-counted : firstNumber (stateOrder s) ≡ 0 → Counted s

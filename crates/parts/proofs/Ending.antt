@@ -2,7 +2,7 @@
 use mathlib.Core.Path.{_≡_, refl, sym, ap, ap₂, _∙_}
 use mathlib.Core.List.{List, []}
 use Prim.Native.Nat.{ℕ, zero, suc, _+_, _≤_, _<_}
-use native.Mathlib.Nat.{add-zero}
+use native.Mathlib.Decide.{ℕ-discrete}
 use native.Mathlib.Omega.{arith}
 use lib.ListN.{length, take}
 use lib.Seq.{length-take-le}
@@ -14,11 +14,13 @@ use Rattle.blake.specs.Modes.{flagIn}
 use Rattle.parts_rule.specs.Subtrees.{finished, folded}
 use Rattle.parts_rule.specs.Run.{blockNumber, ended}
 use Rattle.parts_rule.proofs.Folds.{folded-nil, folded-later}
+use Rattle.subtrees.specs.Outcome.{rootOutcome}
+use Rattle.subtrees.proofs.Laws.{root-none, root-done}
 use Rattle.parts.specs.declared.Parts.{Parts}
 use Rattle.parts_rule.specs.Stack.{subtrees}
 use Rattle.parts.specs.State.{startIn, startOf, flagOf, Counted, runOf}
 use Rattle.parts_rule.proofs.Places.{subtrees-length}
-use Rattle.parts_rule.proofs.Counts.{held-low}
+use Rattle.parts_rule.proofs.Counts.{held-low, stacked-low}
 
 -- the bytes that the block holds
 pub held-at : (s : Parts) → length (s .block) ≡ 64 → Counted s → (s .held ≤ length (s .block)) × (length (take (s .held) (s .block)) ≡ s .held)
@@ -41,22 +43,22 @@ module _ (s : Parts) (size : length (s .block) ≡ 64) (g : Counted s) {n flag f
       ∙ ap₂ (λ (j f : ℕ). compressed (s .chain) (wordsOf 16 (take (s .held) (s .block))) (finished (s .total)) j (f + 2 + x)) (sym (held-at s size g .1))
       (eo ∙ ap (λ (f : ℕ). f + startFlag (blockNumber (s .total))) ef)
 
-  -- one chunk
-  pub ends-one : {v d : List ℕ} → s .stacked ≡ 0 → v ≡ compressed (s .chain) m n (s .held) (flags + 2 + 8) → d ≡ bytesOf v
+  -- the only chunk, or the last of many
+  pub ends : {v w d : List ℕ} {x : ℕ} → length (s .stack) ≡ 240 → (s .stacked ≡ 0 → x ≡ rootNode) → (0 < s .stacked → x ≡ 0)
+      → v ≡ compressed (s .chain) m n (s .held) (flags + 2 + x) → w ≡ rootOutcome start flag (s .stacked) v (s .stack) → d ≡ bytesOf w
       → d ≡ ended (startOf s) (flagOf s) (runOf s)
   unfolding ended subtrees
-  ends-one {v} {d} z ev ed =
-      ed ∙ ap bytesOf
-      (ev ∙ last-is 8 ∙ sym (folded-nil (startOf s) (flagOf s) rootNode last)
-      ∙ ap (λ (k : ℕ). folded (startOf s) (flagOf s) rootNode (subtrees (s .stack) k) last) (sym z))
-
-  -- more
-  pub ends-more : {v w d : List ℕ} → 0 < s .stacked → v ≡ compressed (s .chain) m n (s .held) (flags + 2)
-      → w ≡ folded start flag rootNode (subtrees (s .stack) (s .stacked)) (λ root. v) → d ≡ bytesOf w
-      → d ≡ ended (startOf s) (flagOf s) (runOf s)
-  unfolding ended
-  ends-more {v} {w} {d} some ev ew ed =
-      let vv : v ≡ last 0 = ev ∙ ap (compressed (s .chain) m n (s .held)) (sym (add-zero (flags + 2))) ∙ last-is 0 in
-      ed ∙ ap bytesOf
-      (ew ∙ ap₂ (λ (k : List ℕ) (f : ℕ). folded k f rootNode (subtrees (s .stack) (s .stacked)) (λ root. v)) es ef
-      ∙ folded-later (startOf s) (flagOf s) rootNode (subtrees (s .stack) (s .stacked)) (λ root. v) last (omega (arith, subtrees-length (s .stack) (s .stacked))) vv)
+  ends {v} {w} {d} {x} ls one many ev ew ed =
+      let vv : v ≡ last x = ev ∙ last-is x in
+      let ww : w ≡ rootOutcome (startOf s) (flagOf s) (s .stacked) v (s .stack) =
+      ew ∙ ap₂ (λ (k : List ℕ) (f : ℕ). rootOutcome k f (s .stacked) v (s .stack)) es ef in
+      ed ∙ ap bytesOf (ww ∙ elim (ℕ-discrete (s .stacked) 0) [
+        | yes z ↦ sym (root-none (startOf s) (flagOf s) (s .stacked) v (s .stack) z) ∙ vv ∙ ap last (one z)
+            ∙ sym (folded-nil (startOf s) (flagOf s) rootNode last)
+            ∙ ap (λ (k : ℕ). folded (startOf s) (flagOf s) rootNode (subtrees (s .stack) k) last) (sym z)
+        | no z ↦
+            let some : 0 < s .stacked = omega arith in
+            sym (root-done (startOf s) (flagOf s) (s .stacked) v (s .stack) ls some (omega (arith, g .stacked, stacked-low (s .total) (g .limit))))
+            ∙ folded-later (startOf s) (flagOf s) rootNode (subtrees (s .stack) (s .stacked)) (λ root. v) last
+            (omega (arith, subtrees-length (s .stack) (s .stacked))) (vv ∙ ap last (many some))
+      ])

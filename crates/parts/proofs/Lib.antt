@@ -1,5 +1,4 @@
 -- Laws that the proofs cite.
-mod Copies
 mod Same
 mod Begins
 mod Taking

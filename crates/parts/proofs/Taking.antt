@@ -13,8 +13,8 @@ use Rattle.parts_rule.specs.Run.{Run, between, put, flushed, taken}
 use Rattle.parts_rule.proofs.Puts.{taken-put, taken-filled}
 use Rattle.parts.specs.declared.Parts.{Parts}
 use Rattle.parts_rule.specs.Counts.{heldOf}
-use Rattle.parts_rule.specs.Stack.{subtrees, joined}
-use Rattle.parts.specs.State.{startIn, startOf, flagOf, Counted, runOf, padded, stored}
+use Rattle.parts_rule.specs.Stack.{subtrees, joined, padded}
+use Rattle.parts.specs.State.{startIn, startOf, flagOf, Counted, runOf, stored}
 use Rattle.parts_rule.specs.Steps.{Full, fullRun, Gone, Ready, Went}
 use Rattle.parts_rule.proofs.Places.{subtrees-length, joined-take}
 use Rattle.parts_rule.proofs.Counts.{held-low, filled-held, filled-before, filled-even, none-held}
@@ -24,9 +24,9 @@ abbrev pub fields : ℕ → ℕ → ℕ → ℕ → List ℕ → List ℕ → Li
 fields total held stacked keyed key chain stack block =
     record { total = total; held = held; stacked = stacked; keyed = keyed; key = key; chain = chain; stack = stack; block = block }
 
-module _ (keyed : ℕ) (key chain ws : List ℕ) (stacked : ℕ) where
-  pub stores : (bytes : List ℕ) (t : ℕ) {total held : ℕ} {words block : List ℕ} → total ≡ t → held ≡ length bytes
-      → words ≡ padded 240 (take (8 * stacked) ws) → block ≡ padded 64 bytes
+module _ (keyed : ℕ) (key chain ws : List ℕ) (stacked : ℕ) (size : length ws ≡ 240) where
+  stores : (bytes : List ℕ) (t : ℕ) {total held : ℕ} {words block : List ℕ} → total ≡ t → held ≡ length bytes
+      → words ≡ padded (length ws) (take (8 * stacked) ws) → block ≡ padded 64 bytes
       → fields total held stacked keyed key chain words block
       ≡ stored keyed key (record { stack = subtrees ws stacked; chain = chain; block = bytes; total = t })
   stores bytes t {total} {held} {words} {block} et eh ew eb =
@@ -37,7 +37,7 @@ module _ (keyed : ℕ) (key chain ws : List ℕ) (stacked : ℕ) where
         keyed = keyed;
         key = key;
         chain = chain;
-        stack = (ew ∙ ap (padded 240) (sym (joined-take ws stacked))) i;
+        stack = (ew ∙ ap₂ padded size (sym (joined-take ws stacked))) i;
         block = eb i;
       }
 
@@ -47,11 +47,11 @@ module _ (s : Parts) (part : List ℕ) (size : length (s .block) ≡ 64) (g : Co
   held-is : length (take (s .held) (s .block)) ≡ s .held
   held-is = length-take-le (s .held) (s .block) (omega (arith, g .held, held-low (s .total)))
 
-  pub puts : {words block : List ℕ} → words ≡ padded 240 (take (8 * s .stacked) (s .stack)) → block ≡ padded 64 (take (s .held) (s .block) ++ part)
+  pub puts : {words block : List ℕ} → length (s .stack) ≡ 240 → words ≡ padded (length (s .stack)) (take (8 * s .stacked) (s .stack)) → block ≡ padded 64 (take (s .held) (s .block) ++ part)
       → fields (s .total + length part) (s .held + length part) (s .stacked) (s .keyed) (s .key) (s .chain) words block
       ≡ stored (s .keyed) (s .key) (put (runOf s) part)
-  puts ew eb =
-      stores (s .keyed) (s .key) (s .chain) (s .stack) (s .stacked) (take (s .held) (s .block) ++ part) (s .total + length part) refl
+  puts ls ew eb =
+      stores (s .keyed) (s .key) (s .chain) (s .stack) (s .stacked) ls (take (s .held) (s .block) ++ part) (s .total + length part) refl
       (sym (length-append (take (s .held) (s .block)) part ∙ ap (λ (n : ℕ). n + length part) held-is)) ew eb
 
   pub takes-put : s .held + length part ≤ 64 → put (runOf s) part ≡ taken (startOf s) (flagOf s) (runOf s) part
@@ -82,7 +82,7 @@ module _ (s : Parts) (part : List ℕ) (g : Counted s) (none : s .held ≡ 0) (l
 module _ (keyed : ℕ) (key chain ws : List ℕ) (stacked total : ℕ) (part : List ℕ) {start : List ℕ} {flag : ℕ} (es : start ≡ startIn keyed key)
     (ef : flag ≡ flagIn keyed) where
   pub takes-on : {ws′ chain′ words block : List ℕ} {stacked′ at : ℕ} → Went start flag chain ws stacked total part ws′ chain′ stacked′ at
-      → length part ≤ at + 64 → words ≡ padded 240 (take (8 * stacked′) ws′) → block ≡ padded 64 (take (length part - at) (drop at part))
+      → length part ≤ at + 64 → words ≡ padded (length ws′) (take (8 * stacked′) ws′) → block ≡ padded 64 (take (length part - at) (drop at part))
       → fields (total + length part) (length part - at) stacked′ keyed key chain′ words block
       ≡ stored keyed key (taken (startIn keyed key) (flagIn keyed) (between (subtrees ws stacked) chain total) part)
   takes-on {ws′} {chain′} {words} {block} {stacked′} {at} w few ew eb =
@@ -90,7 +90,7 @@ module _ (keyed : ℕ) (key chain ws : List ℕ) (stacked total : ℕ) (part : L
       let rest = drop at part in
       let ld : length rest ≡ length part - at = length-drop at part in
       let here = between (subtrees ws′ stacked′) chain′ (total + at) in
-      stores keyed key chain′ ws′ stacked′ rest (total + at + length rest) (omega arith) (sym ld) ew
+      stores keyed key chain′ ws′ stacked′ (w .size) rest (total + at + length rest) (omega arith) (sym ld) ew
       (eb ∙ ap (padded 64) (take-all (length part - at) rest (omega arith)))
       ∙ ap (stored keyed key)
       (sym (taken-put start flag here rest (let e : 0 + length rest ≤ 64 = omega arith in e)) ∙ sym (w .is)

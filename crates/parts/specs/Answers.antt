@@ -5,14 +5,14 @@ use lib.ListN.{length}
 use Rattle.compression.specs.Compression.{starting}
 use Rattle.words.specs.Words.{wordsOf}
 use Rattle.blake.specs.Blake.{keyedFlag}
-use Rattle.order.specs.Order.{Refusal, _if_, _above_, _is-not_, verdict}
+use Rattle.order.specs.Order.{Refusal, _if_, _above_, verdict}
 use Rattle.wire.specs.Slices.{zeros}
 use Rattle.digest.specs.Modes.{numberIn, keyIn}
 use Rattle.parts_rule.specs.Run.{runAfter, taken, ended}
+use Rattle.subtrees.specs.Counts.{countOrder}
 use Rattle.parts.specs.declared.Parts.{Parts}
 use Rattle.parts.specs.declared.Added.{Added}
 use Rattle.parts.specs.declared.Ended.{Ended}
-use Rattle.parts_rule.specs.Counts.{heldOf, stackedOf}
 use Rattle.parts.specs.State.{startOf, flagOf, runOf, stored}
 
 -- ---- The state that holds no byte
@@ -27,11 +27,7 @@ beginOutcome mode = begunIn (numberIn mode) (keyIn mode)
 
 -- ---- A part more
 
--- 17: a total above 2^40, or a stored count that contradicts the total
-unfoldable pub countOrder : ℕ → ℕ → ℕ → List Refusal
-countOrder total held stacked =
-    17 if total above 2 ^ 40 ∷ 17 if held is-not heldOf total ∷ 17 if stacked is-not stackedOf total ∷ []
-
+-- 17: counts that no state has
 abbrev pub stateOrder : Parts → List Refusal
 stateOrder s = countOrder (s .total) (s .held) (s .stacked)
 

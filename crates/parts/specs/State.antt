@@ -5,10 +5,9 @@ use Prim.Native.Nat.{ℕ, zero, suc, _+_, _-_, _*_, _/_, _^_, _≤_}
 use lib.ListN.{length, take, drop}
 use Rattle.compression.specs.Compression.{starting}
 use Rattle.blake.specs.Modes.{wordsIn, flagIn}
-use Rattle.wire.specs.Slices.{zeros}
 use Rattle.digest.specs.Modes.{numberIn, keyIn}
 use Rattle.parts_rule.specs.Counts.{heldOf, stackedOf}
-use Rattle.parts_rule.specs.Stack.{subtrees, joined}
+use Rattle.parts_rule.specs.Stack.{subtrees, joined, padded}
 use Rattle.parts_rule.specs.Run.{Run, runAfter}
 use Rattle.parts.specs.declared.Parts.{Parts}
 
@@ -40,10 +39,6 @@ pub record Counted (s : Parts) : Type 0 where
 abbrev pub runOf : Parts → Run
 runOf s =
     record { stack = subtrees (s .stack) (s .stacked); chain = s .chain; block = take (s .held) (s .block); total = s .total }
-
--- xs and zeros, n in all
-abbrev pub padded : ℕ → List ℕ → List ℕ
-padded n xs = xs ++ zeros (n - length xs)
 
 -- a run as it is stored in a mode: the places that the counts do not name are 0
 abbrev pub stored : ℕ → List ℕ → Run → Parts

@@ -5,13 +5,13 @@ ghost use Prim.Native.Nat.{_+_, _<_, _≤_};
 ghost use lib.ListN.{length, take};
 ghost use Rattle.chunks.specs.Chunks.{startFlag};
 ghost use Rattle.parts_rule.specs.Run.{blockNumber};
-ghost use Rattle.parts.specs.State.{padded};
+ghost use Rattle.parts_rule.specs.Stack.{padded};
 ghost use Rattle.parts_rule.specs.Steps.{Full, Gone};
-use crate::counts::chunks_before;
-use crate::stack::push;
 use chunks::CHUNK_END;
 use chunks::CHUNK_START;
 use compression::compress::compress;
+use subtrees::counts::chunks_before;
+use subtrees::push;
 use words::load;
 
 // The chaining words, and how many subtrees the stack has.

@@ -3,14 +3,12 @@ ghost use mathlib.Core.Path.{_≡_};
 ghost use Rattle.parts.specs.Answers.{beginOutcome, addOutcome, endOutcome};
 
 mod blocks;
-mod counts;
 mod modes;
-mod stack;
 mod take;
 
-use crate::counts::MOST;
-use crate::counts::counted;
 use digest::Digest;
+use subtrees::counts::MOST;
+use subtrees::counts::counted;
 
 // A state, as C lays it out, without padding: how many bytes came in all, how many of them the block holds, and how many subtrees the stack; the mode, whose
 // number is 0 for plain and any other for keyed, and its key's words; the open chunk's chaining words; the stack of finished subtrees; the block.

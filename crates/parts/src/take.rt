@@ -3,6 +3,7 @@ ghost use mathlib.Core.Path.{_≡_};
 ghost use mathlib.Core.Bool.{true};
 ghost use Prim.Native.Nat.{_+_, _%_, _<_, _≤_, _^_};
 ghost use lib.ListN.{length};
+ghost use Rattle.blake.specs.Blake.{rootNode};
 ghost use Rattle.parts_rule.specs.Run.{between, put, taken, ended};
 ghost use Rattle.parts_rule.specs.Stack.{subtrees};
 ghost use Rattle.parts.specs.State.{Counted, startOf, flagOf, runOf, stored};
@@ -11,17 +12,17 @@ use crate::Parts;
 use crate::blocks::block_with;
 use crate::blocks::go_on;
 use crate::blocks::opening;
-use crate::counts::chunks_before;
 use crate::modes::start_of;
-use crate::stack::clear;
-use crate::stack::push;
-use crate::stack::root;
 use blake::flag_in;
 use blake::flags::ROOT;
 use blake::tree::quad;
 use chunks::CHUNK_END;
 use chunks::chunk;
 use compression::compress::compress;
+use subtrees::clear;
+use subtrees::counts::chunks_before;
+use subtrees::push;
+use subtrees::root;
 use words::load;
 use words::unload;
 
@@ -234,6 +235,13 @@ pub(crate) fn take_in(s: Parts, part: &[u8]) -> Parts
     fill(s, part)
 }
 
+// The root flag for the last block, where it is in the only chunk.
+fn root_flag(stacked: u32) -> u32
+    ensures { λ r. ⌜ (stacked ≡ 0 → r ≡ rootNode) × (0 < stacked → r ≡ 0) × (r ≤ rootNode) ⌝ }
+{
+    if stacked == 0 { ROOT as u32 } else { 0 }
+}
+
 // The digest: the last block ends its chunk, and the root flag is on the last compression of all.
 pub(crate) fn finish(s: Parts) -> [u8; 32]
     requires { ⌜ Counted s ⌝ }
@@ -247,10 +255,7 @@ pub(crate) fn finish(s: Parts) -> [u8; 32]
     let flag = flag_in(s.keyed);
     let n = chunks_before(s.total);
     let h = s.held as usize;
-    let flags = opening(flag, s.total) + CHUNK_END;
-    if s.stacked == 0 {
-        return unload(compress(chain, load(&block[..h]), n, h as u32, flags + ROOT as u32));
-    }
+    let flags = opening(flag, s.total) + CHUNK_END + root_flag(s.stacked);
     let v = compress(chain, load(&block[..h]), n, h as u32, flags);
     unload(root(start, flag, &stack, s.stacked, v))
 }

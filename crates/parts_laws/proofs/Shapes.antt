@@ -7,7 +7,6 @@ use native.Mathlib.Decide.{decLe}
 use native.Mathlib.Omega.{arith}
 use lib.ListN.{length, take, drop, length-drop}
 use lib.Seq.{drop-append-add, take-at}
-use Rattle.compression.proofs.Lengths.{compressed-length}
 use Rattle.chunks.specs.Chunks.{before}
 use Rattle.chunks.proofs.Lengths.{chunked-length}
 use Rattle.blake.specs.Blake.{parented, treed}
@@ -15,7 +14,7 @@ use Rattle.blake.proofs.Sides.{short-suc, long-suc}
 use Rattle.wire.specs.Slices.{zeros}
 use Rattle.parts_rule.specs.Subtrees.{leftsIn}
 use Rattle.parts_rule.specs.Run.{Run, runAfter}
-use Rattle.parts_rule.proofs.Folds.{lefts-low, lefts-high, lefts-count}
+use Rattle.parts_rule.proofs.Folds.{parented-length, lefts-low, lefts-high, lefts-count}
 use Rattle.parts.specs.declared.Parts.{Parts}
 use Rattle.parts_rule.specs.Stack.{subtrees, joined}
 use Rattle.parts.specs.State.{Counted, runOf, stored}
@@ -52,17 +51,13 @@ run-stored keyed key r e =
     }
 
 module _ (key : List ℕ) (flag : ℕ) where
-  parented-length : (root : ℕ) (l r : List ℕ) → length (parented key flag root l r) ≡ 8
-  unfolding parented
-  parented-length root l r = compressed-length _ _ _ _ _
-
   treed-length : (h root n : ℕ) (bs : List ℕ) → length (treed h key flag root n bs) ≡ 8
   unfolding treed
   treed-length zero root n bs = chunked-length key flag root n bs
   treed-length (suc h) root n bs =
       by-cases (decLe (length bs) (1024 * 2 ^ h))
       (λ a. ap length (sym (short-suc key flag root n bs h a)) ∙ treed-length h root n bs)
-      (λ a. ap length (sym (long-suc key flag root n bs h (omega arith))) ∙ parented-length root _ _)
+      (λ a. ap length (sym (long-suc key flag root n bs h (omega arith))) ∙ parented-length key flag root _ _)
 
   lefts-eights : (h n : ℕ) (bs : List ℕ) → Eights (leftsIn key flag h n bs)
   unfolding leftsIn

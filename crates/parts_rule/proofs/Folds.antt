@@ -11,6 +11,7 @@ use lib.Seq.{take-at, drop-at, drop-drop, take-append-le, drop-append-le, length
 use lib.Pow.{pow-pos}
 use lib.Count.{ones}
 use borrow.Author.Tests.{le-leb, lt-leb}
+use Rattle.compression.proofs.Lengths.{compressed-length}
 use Rattle.chunks.specs.Chunks.{chunked}
 use Rattle.blake.specs.Blake.{parented, treed}
 use Rattle.blake.proofs.Sides.{short-suc, long-suc}
@@ -74,6 +75,15 @@ module _ (key : List ℕ) (flag : ℕ) where
   pub folded-nil : (root : ℕ) (last : ℕ → List ℕ) → folded key flag root [] last ≡ last root
   unfolding folded
   folded-nil root last = refl
+
+  pub parented-length : (root : ℕ) (l r : List ℕ) → length (parented key flag root l r) ≡ 8
+  unfolding parented
+  parented-length root l r = compressed-length _ _ _ _ _
+
+  pub folded-length : (ls : List (List ℕ)) (v : List ℕ) → length v ≡ 8 → length (folded key flag 0 ls (λ root. v)) ≡ 8
+  unfolding folded
+  folded-length [] v e = e
+  folded-length (l ∷ ls) v e = parented-length 0 l (folded key flag 0 ls (λ root. v))
 
   pub folded-snoc : (ls : List (List ℕ)) (l v : List ℕ)
       → folded key flag 0 (ls ++ (l ∷ [])) (λ root. v) ≡ folded key flag 0 ls (λ root. parented key flag 0 l v)

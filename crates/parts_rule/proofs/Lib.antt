@@ -7,5 +7,6 @@ mod Chunks
 mod Fours
 pub mod Counts
 pub mod Flags
+pub mod Copies
 pub mod Places
 pub mod Going

@@ -8,7 +8,7 @@ use lib.Seq.{paste, take-at, drop-at, drop-append-le, take-append-le, drop-appen
 use lib.Count.{ones}
 use Rattle.blake.specs.Blake.{parented, rootNode}
 use Rattle.parts_rule.specs.Subtrees.{folded, pushed}
-use Rattle.parts_rule.proofs.Folds.{folded-cons, folded-snoc}
+use Rattle.parts_rule.proofs.Folds.{folded-cons, folded-snoc, folded-length}
 use Rattle.parts_rule.specs.Stack.{subtreeAt, subtrees, joined}
 use Rattle.parts_rule.specs.Steps.{Pushes}
 
@@ -111,20 +111,29 @@ pub folds-all : (key : List ℕ) (flag : ℕ) {ws : List ℕ} {from top : ℕ} {
 folds-all key flag {ws} {from} {top} {v} {at} {w} b g = sym (fold-none key flag ws from at w b) ∙ g .is
 
 -- a value pushed on the stored stack
-pub pushed-stored : (key : List ℕ) (flag : ℕ) (ws v w : List ℕ) (m stacked : ℕ) {ws′ : List ℕ} → Pushes m stacked → length ws ≡ 240 → length w ≡ 8
-    → w ≡ folded key flag 0 (drop (ones m - 1) (subtrees ws stacked)) (λ root. v) → ws′ ≡ paste ws (8 * (ones m - 1)) w 8
-    → (length ws′ ≡ 240) × (ones m ≡ ones m) × (subtrees ws′ (ones m) ≡ pushed key flag (ones m - 1) (subtrees ws stacked) v)
-pushed-stored key flag ws v w m stacked {ws′} f ls lw g ep =
-    let k = ones m - 1 in
-    let low : 8 * k + 8 ≤ 240 = omega (arith, f .some, f .fits) in
-    let under : stacked ≡ (stacked - k) + k = omega (arith, f .under) in
-    let top : ones m ≡ suc k = omega (arith, f .some) in (
-      ap length ep ∙ length-paste ws (8 * k) w 8 (omega arith) (omega arith) ∙ ls,
-      refl,
-      ap₂ subtrees ep top ∙ subtrees-with ws w k (omega arith) lw
-          ∙ ap₂ (λ (ls : List (List ℕ)) (x : List ℕ). ls ++ (x ∷ []))
-          (sym (subtrees-take ws k (stacked - k)) ∙ ap (λ (j : ℕ). take k (subtrees ws j)) (sym under)) g,
-    )
+module _ (key : List ℕ) (flag : ℕ) (ws v : List ℕ) (m stacked : ℕ) (f : Pushes m stacked) (size : length ws ≡ 240) (eight : length v ≡ 8) where
+  abbrev k : ℕ
+  k = ones m - 1
+
+  abbrev w : List ℕ
+  w = folded key flag 0 (drop k (subtrees ws stacked)) (λ root. v)
+
+  low : 8 * k + 8 ≤ 240
+  low = omega (arith, f .some, f .fits)
+
+  lw : length w ≡ 8
+  lw = folded-length key flag (drop k (subtrees ws stacked)) v eight
+
+  pub pushed-size : length (paste ws (8 * k) w 8) ≡ 240
+  pushed-size = length-paste ws (8 * k) w 8 (omega (arith, low)) (omega (arith, lw)) ∙ size
+
+  pub pushed-stored : subtrees (paste ws (8 * k) w 8) (ones m) ≡ pushed key flag k (subtrees ws stacked) v
+  pushed-stored =
+      let under : stacked ≡ (stacked - k) + k = omega (arith, f .under) in
+      ap (subtrees (paste ws (8 * k) w 8)) (let e : ones m ≡ suc k = omega (arith, f .some) in e)
+      ∙ subtrees-with ws w k (omega (arith, low)) lw
+      ∙ ap (λ (ls : List (List ℕ)). ls ++ (w ∷ []))
+      (sym (subtrees-take ws k (stacked - k)) ∙ ap (λ (j : ℕ). take k (subtrees ws j)) (sym under))
 
 -- the first subtree and the others
 subtrees-some : (ws : List ℕ) (k : ℕ) → (ls : List (List ℕ)) × (subtrees ws (suc k) ≡ subtreeAt ws 0 ∷ ls)

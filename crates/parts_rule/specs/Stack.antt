@@ -1,7 +1,8 @@
--- The stack as its words lie: eight for each subtree, the oldest first.
+-- The stack as its words lie: eight for each subtree, the oldest first, and zeros behind the last.
 use mathlib.Core.List.{List, [], _∷_, _++_}
-use Prim.Native.Nat.{ℕ, zero, suc, _*_}
-use lib.ListN.{take, drop}
+use Prim.Native.Nat.{ℕ, zero, suc, _-_, _*_}
+use lib.ListN.{length, take, drop}
+use Rattle.wire.specs.Slices.{zeros}
 
 -- subtree i: eight words
 abbrev pub subtreeAt : List ℕ → ℕ → List ℕ
@@ -16,3 +17,7 @@ subtrees ws (suc k) = subtrees ws k ++ (subtreeAt ws k ∷ [])
 unfoldable pub joined : List (List ℕ) → List ℕ
 joined [] = []
 joined (l ∷ ls) = l ++ joined ls
+
+-- xs and zeros, n in all
+abbrev pub padded : ℕ → List ℕ → List ℕ
+padded n xs = xs ++ zeros (n - length xs)

@@ -6,7 +6,7 @@ use Rattle.digest_input.proofs.buffer.Statement.{statement}
 use Rattle.digest_input.proofs.buffer.Tie as tie
 
 returns : tie.Need-returns
-returns c = sym (length-replicate {A = ℕ} 1048576 0)
+returns c = sym (length-replicate {A = ℕ} 65536 0)
 
 pub buffer-spec : {M : Type 1} → statement M
 buffer-spec = tie.close (tie.spec returns)

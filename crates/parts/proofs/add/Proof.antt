@@ -20,7 +20,7 @@ sub-if2 c =
 returns-2 : tie.Need-returns-2
 returns-2 c =
     let a = c .before .before .before .before .args in
-    add-passed (a .state) (a .part .now) (c .if2 .taken)
+    add-passed (a .state) (a .part .now) (omega (arith, c .if2 .taken))
 
 returns-3 : tie.Need-returns-3
 returns-3 c =

@@ -4,7 +4,7 @@ use native.Mathlib.Omega.{arith}
 use mathlib.Core.Path.{refl}
 use lib.ListN.{length}
 use Rattle.wire.specs.Slices.{zeros}
-use Rattle.parts.proofs.Copies.{Copies, copies-none, copies-more, copies-padded, copies-behind, copies-size}
+use Rattle.parts_rule.proofs.Copies.{Copies, copies-none, copies-more, copies-padded, copies-behind, copies-size}
 use borrow.Author.Needs.{needs}
 use Rattle.parts.proofs.blocks.block_with.Statement.{statement}
 use Rattle.parts.proofs.blocks.block_with.Tie as tie

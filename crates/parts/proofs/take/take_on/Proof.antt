@@ -1,16 +1,8 @@
 -- Steps through the part, and what is left goes into the block: `Taking` has what is stored.
-use lib.ListN.{length}
-use Rattle.parts_rule.proofs.Counts.{stacked-few}
 use Rattle.parts.proofs.Taking.{takes-on}
 use borrow.Author.Needs.{needs}
 use Rattle.parts.proofs.take.take_on.Statement.{statement}
 use Rattle.parts.proofs.take.take_on.Tie as tie
-
-clear-requires : tie.Need-clear-requires
-clear-requires c κs =
-    let start = c .before .before .before .before .before .before .before .before .before .before .before .before .before in
-    let w = c .before .before .before .before .before .steps .ensures .0 in
-    (w .size, stacked-few (start .args .s .total) (length (start .args .part .now)) (c .before .before .before .before .before .steps .result .by) (start .pre .0 .limit) (w .low) (w .count))
 
 returns : tie.Need-returns
 returns c =
@@ -35,7 +27,7 @@ take-on-spec =
     (λ c. search needs)
     (λ c. search needs)
     (λ c. search needs)
-    clear-requires
+    (λ c κs. search needs)
     (λ c. search needs)
     (λ c. search needs)
     returns)

@@ -1,0 +1,3 @@
+-- What a push and a root come to, and which counts are refused.
+pub mod Laws
+pub mod Counted
