@@ -40,7 +40,8 @@ module _ (s : Parts) (size : length (s .block) ≡ 64) (g : Counted s) {n flag f
   last-is : (x : ℕ) → compressed (s .chain) m n (s .held) (flags + 2 + x) ≡ last x
   last-is x =
       ap₂ (λ (w : List ℕ) (j : ℕ). compressed (s .chain) w j (s .held) (flags + 2 + x)) em en
-      ∙ ap₂ (λ (j f : ℕ). compressed (s .chain) (wordsOf 16 (take (s .held) (s .block))) (finished (s .total)) j (f + 2 + x)) (sym (held-at s size g .1))
+      ∙ ap₂ (λ (j f : ℕ). compressed (s .chain) (wordsOf 16 (take (s .held) (s .block))) (finished (s .total)) j (f + 2 + x))
+      (sym (held-at s size g .1))
       (eo ∙ ap (λ (f : ℕ). f + startFlag (blockNumber (s .total))) ef)
 
   -- the only chunk, or the last of many

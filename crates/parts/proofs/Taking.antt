@@ -17,7 +17,7 @@ use Rattle.parts_rule.specs.Stack.{subtrees, joined, padded}
 use Rattle.parts.specs.State.{startIn, startOf, flagOf, Counted, runOf, stored}
 use Rattle.parts_rule.specs.Steps.{Full, fullRun, Gone, Ready, Went}
 use Rattle.parts_rule.proofs.Places.{subtrees-length, joined-take}
-use Rattle.parts_rule.proofs.Counts.{held-low, filled-held, filled-before, filled-even, none-held}
+use Rattle.parts_rule.proofs.Counts.{held-low, filled-held, filled-before, none-held}
 
 -- fields are those of a run with these bytes in the block
 abbrev pub fields : ℕ → ℕ → ℕ → ℕ → List ℕ → List ℕ → List ℕ → List ℕ → Parts
@@ -47,7 +47,8 @@ module _ (s : Parts) (part : List ℕ) (size : length (s .block) ≡ 64) (g : Co
   held-is : length (take (s .held) (s .block)) ≡ s .held
   held-is = length-take-le (s .held) (s .block) (omega (arith, g .held, held-low (s .total)))
 
-  pub puts : {words block : List ℕ} → length (s .stack) ≡ 240 → words ≡ padded (length (s .stack)) (take (8 * s .stacked) (s .stack)) → block ≡ padded 64 (take (s .held) (s .block) ++ part)
+  pub puts : {words block : List ℕ} → length (s .stack) ≡ 240 → words ≡ padded (length (s .stack)) (take (8 * s .stacked) (s .stack)) → block
+      ≡ padded 64 (take (s .held) (s .block) ++ part)
       → fields (s .total + length part) (s .held + length part) (s .stacked) (s .keyed) (s .key) (s .chain) words block
       ≡ stored (s .keyed) (s .key) (put (runOf s) part)
   puts ls ew eb =
@@ -74,7 +75,8 @@ module _ (s : Parts) (part : List ℕ) (g : Counted s) (none : s .held ≡ 0) (l
   pub takes-none : taken (startOf s) (flagOf s) (between (subtrees (s .stack) (s .stacked)) (s .chain) (s .total)) part
       ≡ taken (startOf s) (flagOf s) (runOf s) part
   takes-none =
-      ap (λ (n : ℕ). taken (startOf s) (flagOf s) (record { stack = subtrees (s .stack) (s .stacked); chain = s .chain; block = take n (s .block); total = s .total }) part)
+      ap (λ (n : ℕ). taken (startOf s) (flagOf s)
+      (record { stack = subtrees (s .stack) (s .stacked); chain = s .chain; block = take n (s .block); total = s .total }) part)
       (sym none)
 
 -- ---- a part that begins between two blocks
@@ -123,9 +125,6 @@ module _ (s : Parts) (part : List ℕ) (size : length (s .block) ≡ 64) (g : Co
         high = g .stacked ∙ ap ones (filled-before (s .total) space held-one to-full);
       }
 
-  pub fills-ready : {n : ℕ} {stacked′ : ℕ} → n ≡ length part - space → stacked′ ≡ ones ((s .total + space) / 1024) → Ready stacked′ (s .total + space) n
-  fills-ready e c = record { even = filled-even (s .total + space) (filled-held (s .total) space held-one to-full); count = c; limit = omega (arith, held) }
-
   -- the block as it is filled
   abbrev filled : List ℕ
   filled = take (s .held) (s .block) ++ take space part
@@ -155,5 +154,6 @@ module _ (s : Parts) (part : List ℕ) (size : length (s .block) ≡ 64) (g : Co
       er
       ∙ ap (stored (s .keyed) (s .key))
       (ap₂ (taken (startOf s) (flagOf s)) went (take-all (length part - space) ys (omega arith))
-      ∙ sym (taken-filled (startOf s) (flagOf s) (runOf s) xs ys (sym (length-append (take (s .held) (s .block)) xs) ∙ filled-length) (omega (arith, held)))
+      ∙ sym (taken-filled (startOf s) (flagOf s) (runOf s) xs ys (sym (length-append (take (s .held) (s .block)) xs) ∙ filled-length)
+      (omega (arith, held)))
       ∙ ap (taken (startOf s) (flagOf s) (runOf s)) (take-append-drop space part))

@@ -92,7 +92,8 @@ module _ (key : List ℕ) (flag c : ℕ) (stack : List (List ℕ)) (chain : List
           chain =
               (ap₂ (λ (n i : ℕ). compressed (chained chain flag c cs q) (wordsOf 16 (drop (64 * q) cs)) n (length (drop (64 * q) cs)) (flag + startFlag i)) en ei
               ∙ ap (λ (n : ℕ). compressed (chained chain flag c cs q) (wordsOf 16 (drop (64 * q) cs)) c n (flag + startFlag q)) lb
-              ∙ ap₂ (λ (cv m : List ℕ). compressed cv (wordsOf 16 m) c 64 (flag + startFlag q)) (sym (chained-same chain flag c cs (b ∷ []) q (block-in t))) eb
+              ∙ ap₂ (λ (cv m : List ℕ). compressed cv (wordsOf 16 m) c 64 (flag + startFlag q))
+              (sym (chained-same chain flag c cs (b ∷ []) q (block-in t))) eb
               ∙ ap (chained chain flag c more) eq) k;
           block = (sym (drop-at cs (b ∷ []) (length cs) refl) ∙ ap (λ (x : ℕ). drop x more) (full-at t (length more) longer h)) k;
           total = total-more k;
@@ -140,8 +141,10 @@ module _ (key : List ℕ) (flag c : ℕ) (stack : List (List ℕ)) (chain : List
       let ei : blockNumber (1024 * c + t) ≡ q = within-block c t (omega arith) (omega arith) in
       let lb : length (drop (64 * q) cs) ≡ t - 64 * q = length-drop (64 * q) cs in
       let v : onward key flag (chunkRun cs) (opening key flag (chunkRun cs) + chunkEnd) ≡ chunked chain flag 0 c cs =
-      ap₂ (λ (n i : ℕ). compressed (chained chain flag c cs q) (wordsOf 16 (drop (64 * q) cs)) n (length (drop (64 * q) cs)) (flag + startFlag i + 2)) en ei
-      ∙ ap₂ (λ (n x : ℕ). compressed (chained chain flag c cs q) (wordsOf 16 (drop (64 * q) cs)) c n x) lb (sym (add-zero (flag + startFlag q + 2))) in
+      ap₂ (λ (n i : ℕ). compressed (chained chain flag c cs q) (wordsOf 16 (drop (64 * q) cs)) n (length (drop (64 * q) cs))
+      (flag + startFlag i + 2)) en ei
+      ∙ ap₂ (λ (n x : ℕ). compressed (chained chain flag c cs q) (wordsOf 16 (drop (64 * q) cs)) c n x) lb
+      (sym (add-zero (flag + startFlag q + 2))) in
       roomed-full key flag (chunkRun cs) (lb ∙ full)
       ∙ flushed-end key flag (chunkRun cs) (within-chunk c t (omega arith) (omega arith) ∙ e)
       ∙ (λ i. record {

@@ -81,7 +81,8 @@ pub record Clears (d : List ℕ) (n : ℕ) (out : List ℕ) (k : ℕ) : Type 0 w
 pub clears-beyond : (d : List ℕ) (n : ℕ) → length d ≤ n → d ≡ padded (length d) (take n d)
 clears-beyond d n l =
     let e : take n d ≡ d = take-all n d l in
-    sym (ap (λ (x : List ℕ). x ++ zeros (length d - length x)) e ∙ ap (λ (j : ℕ). d ++ zeros j) (let z : length d - length d ≡ 0 = omega arith in z) ∙ append-nil d)
+    sym (ap (λ (x : List ℕ). x ++ zeros (length d - length x)) e ∙ ap (λ (j : ℕ). d ++ zeros j) (let z : length d - length d ≡ 0 = omega arith in z)
+    ∙ append-nil d)
 
 pub clears-none : (d : List ℕ) (n : ℕ) → n ≤ length d → Clears d n d n
 clears-none d n l =
@@ -100,7 +101,8 @@ clears-more {d} {n} {out} {k} l g =
       high = omega arith;
       copies =
           subst (Copies d n (zeros (length d)) (set out k 0)) (let e : k - n + 1 ≡ k + 1 - n = omega arith in e)
-          (copies-more (let e : k ≡ n + (k - n) = omega arith in e) (sym (getD-replicate (length d) (k - n) 0 0 (omega arith))) l (omega arith) (g .copies));
+          (copies-more (let e : k ≡ n + (k - n) = omega arith in e) (sym (getD-replicate (length d) (k - n) 0 0 (omega arith))) l (omega arith)
+          (g .copies));
     }
 
 pub clears-all : {d : List ℕ} {n : ℕ} {out : List ℕ} {k : ℕ} → length d ≤ k → Clears d n out k → out ≡ padded (length d) (take n d)

@@ -85,13 +85,6 @@ filled-held t n s e = omega arith
 pub filled-before : (t n : ℕ) → 0 < heldOf t → heldOf t + n ≡ 64 → finished t ≡ finished (t + n)
 filled-before t n s e = omega arith
 
-pub filled-even : (t : ℕ) → heldOf t ≡ 64 → t % 64 ≡ 0
-filled-even t e = omega arith
-
 -- a block that holds none: no byte came
 pub none-held : (t : ℕ) → heldOf t ≡ 0 → t ≡ 0
 none-held t e = omega arith
-
--- between two blocks of a part, too, there are at most thirty subtrees
-pub stacked-few : (total len at : ℕ) {stacked : ℕ} → total + len ≤ 2 ^ 40 → at < len → stacked ≡ ones ((total + at) / 1024) → 8 * stacked ≤ 240
-stacked-few total len at l m e = omega (arith, ones-le 30 ((total + at) / 1024) (omega arith))

@@ -161,7 +161,8 @@ module _ (key : List ℕ) (flag : ℕ) where
   folded-zero (l ∷ ls) f g e = ap (parented key flag 0 l) (folded-zero ls f g e)
 
   -- the same of a fold with it, where there are subtrees
-  pub folded-later : (root : ℕ) (ls : List (List ℕ)) (f g : ℕ → List ℕ) → 0 < length ls → f 0 ≡ g 0 → folded key flag root ls f ≡ folded key flag root ls g
+  pub folded-later : (root : ℕ) (ls : List (List ℕ)) (f g : ℕ → List ℕ) → 0 < length ls → f 0 ≡ g 0 → folded key flag root ls f
+      ≡ folded key flag root ls g
   unfolding folded
   folded-later root [] f g l e = absurd (omega arith)
   folded-later root (x ∷ ls) f g l e = ap (parented key flag root x) (folded-zero ls f g e)

@@ -20,7 +20,8 @@ module _ (key : List ℕ) (flag : ℕ) (ls : List (List ℕ)) where
   -- nothing is folded
   pushed-top : (v : List ℕ) {k : ℕ} → k ≡ length ls → pushed key flag k ls v ≡ ls ++ (v ∷ [])
   pushed-top v {k} e =
-      ap₂ (λ (a b : List (List ℕ)). a ++ (folded key flag 0 b (λ root. v) ∷ [])) (take-all k ls (omega arith)) (drop-of-length-le ls {i = k} (omega arith))
+      ap₂ (λ (a b : List (List ℕ)). a ++ (folded key flag 0 b (λ root. v) ∷ [])) (take-all k ls (omega arith))
+      (drop-of-length-le ls {i = k} (omega arith))
       ∙ ap (λ (x : List ℕ). ls ++ (x ∷ [])) (folded-nil key flag 0 (λ root. v))
 
   -- the last subtree is folded with v
@@ -61,7 +62,8 @@ module _ (c : ℕ) (aligned : c % 4 ≡ 0) where
 module _ (key : List ℕ) (flag c : ℕ) (stack : List (List ℕ)) (aligned : c % 4 ≡ 0) (count : length stack ≡ ones c) where
   -- the four values, pushed one by one, are their tree pushed at once
   pushed-four : (v0 v1 v2 v3 : List ℕ)
-      → pushed key flag (ones (c + 4) - 1) (pushed key flag (ones (c + 3) - 1) (pushed key flag (ones (c + 2) - 1) (pushed key flag (ones (c + 1) - 1) stack v0) v1) v2) v3
+      → pushed key flag (ones (c + 4) - 1)
+      (pushed key flag (ones (c + 3) - 1) (pushed key flag (ones (c + 2) - 1) (pushed key flag (ones (c + 1) - 1) stack v0) v1) v2) v3
       ≡ pushed key flag (ones (c + 4) - 1) stack (parented key flag 0 (parented key flag 0 v0 v1) (parented key flag 0 v2 v3))
   pushed-four v0 v1 v2 v3 =
       let p01 = parented key flag 0 v0 v1 in
@@ -133,7 +135,8 @@ module _ (key : List ℕ) (flag c : ℕ) (stack : List (List ℕ)) (aligned : c 
         let two : drop 2048 bs ++ ys ≡ p2 ++ (chunkIn bs 3 ++ ys) =
         ap (λ (x : List ℕ). x ++ ys) (cut 2048) ∙ append-assoc p2 (drop 3072 bs) ys ∙ ap (λ (x : List ℕ). p2 ++ (x ++ ys)) last in
         let one : drop 1024 bs ++ ys ≡ p1 ++ (drop 2048 bs ++ ys) = ap (λ (x : List ℕ). x ++ ys) (cut 1024) ∙ append-assoc p1 (drop 2048 bs) ys in
-        ap (λ (x : List ℕ). x ++ ys) (cut 0) ∙ append-assoc p0 (drop 1024 bs) ys ∙ ap (λ (x : List ℕ). p0 ++ x) (one ∙ ap (λ (x : List ℕ). p1 ++ x) two)
+        ap (λ (x : List ℕ). x ++ ys) (cut 0) ∙ append-assoc p0 (drop 1024 bs) ys ∙ ap (λ (x : List ℕ). p0 ++ x)
+        (one ∙ ap (λ (x : List ℕ). p1 ++ x) two)
 
     pub whole-four : (ys : List ℕ) → 0 < length ys
         → taken key flag (between stack key (1024 * c)) (bs ++ ys)

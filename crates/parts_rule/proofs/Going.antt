@@ -29,7 +29,8 @@ module _ (key : List ℕ) (flag : ℕ) (chain stack : List ℕ) (stacked total :
   abbrev r : Run
   r = fullRun chain stack stacked total block
 
-  compressed-is : (x : ℕ) → compressed chain m n 64 (flags + x) ≡ compressed chain (wordsOf 16 block) (finished total) (length block) (flag + startFlag (blockNumber total) + x)
+  compressed-is : (x : ℕ) → compressed chain m n 64 (flags + x) ≡ compressed chain (wordsOf 16 block) (finished total) (length block)
+      (flag + startFlag (blockNumber total) + x)
   compressed-is x =
       ap₂ (λ (w : List ℕ) (j : ℕ). compressed chain w j 64 (flags + x)) em en
       ∙ ap₂ (λ (j f : ℕ). compressed chain (wordsOf 16 block) (finished total) j (f + x)) (sym size) ef
@@ -110,8 +111,10 @@ module _ (key : List ℕ) (flag : ℕ) (chain stack : List ℕ) (stacked total :
           even = refl;
           count = ec ∙ ap ones (let e : c + 1 ≡ (total + 1024) / 1024 = omega arith in e);
           is =
-              ap₂ (λ (t : ℕ) (bs : List ℕ). taken key flag (between (subtrees stack stacked) chain t) bs) (sym starts) (sym (take-append-drop 1024 part))
-              ∙ whole-chunk key flag c (subtrees stack stacked) chain xs ys (length-take-le 1024 part (omega arith)) (omega (arith, length-drop 1024 part))
+              ap₂ (λ (t : ℕ) (bs : List ℕ). taken key flag (between (subtrees stack stacked) chain t) bs) (sym starts)
+              (sym (take-append-drop 1024 part))
+              ∙ whole-chunk key flag c (subtrees stack stacked) chain xs ys (length-take-le 1024 part (omega arith))
+              (omega (arith, length-drop 1024 part))
               ∙ ap₂ (λ (s : List (List ℕ)) (t : ℕ). taken key flag (between s key (t + 1024)) ys)
               (ap (pushed key flag (ones (c + 1) - 1) (subtrees stack stacked)) (sym ev) ∙ sym ep) starts;
         }
@@ -132,7 +135,8 @@ module _ (key : List ℕ) (flag : ℕ) (chain stack : List ℕ) (stacked total :
           even = refl;
           count = ec ∙ ap ones (let e : c + 4 ≡ (total + 4096) / 1024 = omega arith in e);
           is =
-              ap₂ (λ (t : ℕ) (bs : List ℕ). taken key flag (between (subtrees stack stacked) chain t) bs) (sym starts) (sym (take-append-drop 4096 part))
+              ap₂ (λ (t : ℕ) (bs : List ℕ). taken key flag (between (subtrees stack stacked) chain t) bs) (sym starts)
+              (sym (take-append-drop 4096 part))
               ∙ ap (λ (w : List ℕ). taken key flag (between (subtrees stack stacked) w (1024 * c)) (xs ++ ys)) same
               ∙ whole-four key flag c (subtrees stack stacked) (four total aligned) is-count xs lx ys (omega (arith, length-drop 4096 part))
               ∙ ap₂ (λ (s : List (List ℕ)) (t : ℕ). taken key flag (between s key (t + 4096)) ys)

@@ -19,7 +19,8 @@ subtrees-suc ws k = refl
 pub subtrees-length : (ws : List ℕ) (k : ℕ) → length (subtrees ws k) ≡ k
 unfolding subtrees
 subtrees-length ws zero = refl
-subtrees-length ws (suc k) = length-append (subtrees ws k) (subtreeAt ws k ∷ []) ∙ ap (λ (n : ℕ). n + 1) (subtrees-length ws k) ∙ (let e : k + 1 ≡ suc k = omega arith in e)
+subtrees-length ws (suc k) = length-append (subtrees ws k) (subtreeAt ws k ∷ []) ∙ ap (λ (n : ℕ). n + 1) (subtrees-length ws k) ∙
+    (let e : k + 1 ≡ suc k = omega arith in e)
 
 -- one behind the other they are the first words
 joined-snoc : (ls : List (List ℕ)) (l : List ℕ) → joined (ls ++ (l ∷ [])) ≡ joined ls ++ l
@@ -37,7 +38,8 @@ joined-take ws (suc k) =
 -- the first k of more
 pub subtrees-take : (ws : List ℕ) (k d : ℕ) → take k (subtrees ws (d + k)) ≡ subtrees ws k
 unfolding subtrees
-subtrees-take ws k zero = ap (λ (j : ℕ). take k (subtrees ws j)) (let e : 0 + k ≡ k = omega arith in e) ∙ take-all k (subtrees ws k) (omega (arith, subtrees-length ws k))
+subtrees-take ws k zero = ap (λ (j : ℕ). take k (subtrees ws j)) (let e : 0 + k ≡ k = omega arith in e) ∙ take-all k (subtrees ws k)
+    (omega (arith, subtrees-length ws k))
 subtrees-take ws k (suc d) =
     ap (λ (j : ℕ). take k (subtrees ws j)) (let e : suc d + k ≡ suc (d + k) = omega arith in e)
     ∙ take-append-le k (subtrees ws (d + k)) (subtreeAt ws (d + k) ∷ []) (omega (arith, subtrees-length ws (d + k)))
@@ -80,7 +82,8 @@ module _ (key : List ℕ) (flag : ℕ) where
   pub fold-none : (ws : List ℕ) (from at : ℕ) (v : List ℕ) → at ≤ from → folded key flag 0 (drop from (subtrees ws at)) (λ root. v) ≡ v
   unfolding folded
   fold-none ws from at v l =
-      ap (λ (ls : List (List ℕ)). folded key flag 0 ls (λ root. v)) (drop-of-length-le (subtrees ws at) {i = from} (omega (arith, subtrees-length ws at)))
+      ap (λ (ls : List (List ℕ)). folded key flag 0 ls (λ root. v))
+      (drop-of-length-le (subtrees ws at) {i = from} (omega (arith, subtrees-length ws at)))
 
 -- the fold down to number `at`: w is what the subtrees from there on and v come to
 pub record Folds (key : List ℕ) (flag : ℕ) (ws : List ℕ) (from top : ℕ) (v : List ℕ) (at : ℕ) (w : List ℕ) : Type 0 where

@@ -19,7 +19,13 @@ put-put r x xs = λ i. record {
 
 put-none : (r : Run) → put r [] ≡ r
 put-none r =
-    λ i. record { stack = r .stack; chain = r .chain; block = append-nil (r .block) i; total = (let e : r .total + 0 ≡ r .total = omega arith in e) i }
+    λ i. record {
+      stack = r .stack;
+      chain = r .chain;
+      block = append-nil (r .block) i;
+      total =
+          (let e : r .total + 0 ≡ r .total = omega arith in e) i;
+    }
 
 module _ (key : List ℕ) (flag : ℕ) where
   pub taken-append : (r : Run) (xs ys : List ℕ) → taken key flag r (xs ++ ys) ≡ taken key flag (taken key flag r xs) ys

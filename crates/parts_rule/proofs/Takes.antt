@@ -58,7 +58,8 @@ module _ (t u : ℕ) (e : u ≡ t + 1) where
       let c : (t - 1) / 1024 ≡ (u - 1) / 1024 = full-chunks h g in
       let q : suc ((t - 1) / 64) ≡ (u - 1) / 64 = omega (arith, full-at h) in
       let w : 16 * ((t - 1) / 1024) ≤ (t - 1) / 64 = omega arith in
-      let a : suc (blockNumber t) ≡ suc ((t - 1) / 64) - 16 * ((t - 1) / 1024) = full-suc (blockNumber t) ((t - 1) / 64) ((t - 1) / 1024) w (bare-number t) in
+      let a : suc (blockNumber t) ≡ suc ((t - 1) / 64) - 16 * ((t - 1) / 1024) = full-suc (blockNumber t) ((t - 1) / 64) ((t - 1) / 1024) w
+      (bare-number t) in
       a ∙ ap₂ (λ (x y : ℕ). x - 16 * y) q c ∙ sym (bare-number u)
 
   end-at : t - 1024 * ((t - 1) / 1024) ≡ 1024 → t ≡ 1024 * suc ((t - 1) / 1024)
@@ -126,7 +127,8 @@ module _ (key : List ℕ) (flag : ℕ) where
         ≡ chunked key flag root number chunk
     unfolding chunked
     chunk-ends root =
-        ap₂ (λ (b : List ℕ) (k : ℕ). compressed (chained key flag number chunk blockAt) (wordsOf 16 b) number k (flag + startFlag blockAt + chunkEnd + root))
+        ap₂ (λ (b : List ℕ) (k : ℕ). compressed (chained key flag number chunk blockAt) (wordsOf 16 b) number k
+        (flag + startFlag blockAt + chunkEnd + root))
         last-block last-length
         ∙ ap (λ (q : ℕ). compressed (chained key flag number chunk q) (wordsOf 16 (drop (64 * q) chunk)) number (length chunk - 64 * q)
         (flag + startFlag q + chunkEnd + root)) (sym block-before)
@@ -137,7 +139,8 @@ module _ (key : List ℕ) (flag : ℕ) where
   ended-after xs l =
       let c = finished (length xs) in
       let z : c ≡ 0 + c = omega arith in
-      let e : (root : ℕ) → onward key flag (runAfter key flag xs) (opening key flag (runAfter key flag xs) + chunkEnd + root) ≡ lastChunk key flag 0 xs root =
+      let e : (root : ℕ) → onward key flag (runAfter key flag xs) (opening key flag (runAfter key flag xs) + chunkEnd + root)
+      ≡ lastChunk key flag 0 xs root =
       λ root. chunk-ends xs root ∙ ap (λ (n : ℕ). chunked key flag root n (drop (1024 * c) xs)) z in
       ap bytesOf
       (ap (folded key flag rootNode (leftsIn key flag 30 0 xs)) (λ i root. e root i)
@@ -204,7 +207,8 @@ module _ (key : List ℕ) (flag : ℕ) where
         let lb : length (drop (64 * i) cs) ≡ 64 = ap length (sym (last-block xs)) ∙ full-length h in
         let eb : drop (64 * before t) xs ≡ take 64 (drop (64 * i) (cs ++ (b ∷ []))) =
         last-block xs ∙ sym (take-at (drop (64 * i) cs) (b ∷ []) 64 lb) ∙ ap (take 64) (sym (drop-append-le (64 * i) cs (b ∷ []) lc)) in
-        let one : chained key flag c (cs ++ (b ∷ [])) (suc i) ≡ chained key flag (finished (length more)) (drop (1024 * finished (length more)) more) (blockNumber (length more)) =
+        let one : chained key flag c (cs ++ (b ∷ [])) (suc i) ≡ chained key flag (finished (length more)) (drop (1024 * finished (length more)) more)
+        (blockNumber (length more)) =
         ap (λ (z : List ℕ). chained key flag c z (suc i)) (sym (drop-append-le (1024 * c) xs (b ∷ []) (chunk-low t)))
         ∙ ap₂ (λ (x y : ℕ). chained key flag x (drop (1024 * x) more) y) ec ei in
         λ k. record {

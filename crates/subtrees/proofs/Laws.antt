@@ -49,7 +49,8 @@ module _ (key : List ℕ) (flag stacked chunks : ℕ) (v words : List ℕ) where
 
   push-is : Pushes chunks stacked → length words ≡ 240 → done ≡ pushOutcome key flag stacked chunks v words
   unfolding pushOutcome pushOrder
-  push-is f size = passes (λ _. pushLeft stacked words) (pushOrder stacked chunks words) done refl (size, (f .most, (some, (f .fits, (f .under, tt)))))
+  push-is f size = passes (λ _. pushLeft stacked words) (pushOrder stacked chunks words) done refl
+      (size, (f .most, (some, (f .fits, (f .under, tt)))))
     where
       some : ones chunks ≡ 0 → ⊥
       some e = omega (arith, f .some)

@@ -25,19 +25,23 @@ returns-2 c =
 returns-3 : tie.Need-returns-3
 returns-3 c =
     let a = c .before .before .before .before .before .args in
-    let g = is-counted (c .before .before .before .before .before .args .state) (sym (c .before .before .before .counted .ensures) ∙ c .before .before .if1 .left) in
-    add-done (a .state) (a .part .now) g (omega (arith, c .if3 .taken, g .limit)) (after-none (a .state) (a .part .now) (omega (arith, c .if3 .taken)))
+    let g = is-counted (c .before .before .before .before .before .args .state)
+    (sym (c .before .before .before .counted .ensures) ∙ c .before .before .if1 .left) in
+    add-done (a .state) (a .part .now) g (omega (arith, c .if3 .taken, g .limit))
+    (after-none (a .state) (a .part .now) (omega (arith, c .if3 .taken)))
 
 take-in-requires : tie.Need-take-in-requires
 take-in-requires c κs =
     let a = c .before .before .before .before .before .args in
-    let g = is-counted (c .before .before .before .before .before .args .state) (sym (c .before .before .before .counted .ensures) ∙ c .before .before .if1 .left) in
+    let g = is-counted (c .before .before .before .before .before .args .state)
+    (sym (c .before .before .before .counted .ensures) ∙ c .before .before .if1 .left) in
     (g, omega (arith, c .if3 .left), omega (arith, c .before .if2 .left, g .limit))
 
 returns-4 : tie.Need-returns-4
 returns-4 c =
     let a = c .before .before .before .before .before .before .args in
-    let g = is-counted (c .before .before .before .before .before .before .args .state) (sym (c .before .before .before .before .counted .ensures) ∙ c .before .before .before .if1 .left) in
+    let g = is-counted (c .before .before .before .before .before .before .args .state)
+    (sym (c .before .before .before .before .counted .ensures) ∙ c .before .before .before .if1 .left) in
     add-done (a .state) (a .part .now) g (omega (arith, c .before .before .if2 .left, g .limit))
     (c .take-in .ensures ∙ after-some (a .state) (a .part .now) (omega (arith, c .before .if3 .left)))
 

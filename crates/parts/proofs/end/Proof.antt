@@ -19,7 +19,8 @@ finish-requires c κs =
 returns-2 : tie.Need-returns-2
 returns-2 c =
     let a = c .before .before .before .args in
-    end-done (a .state) (is-counted (c .before .before .before .args .state) (sym (c .before .before .counted .ensures) ∙ c .before .if1 .left)) (c .finish .ensures)
+    end-done (a .state) (is-counted (c .before .before .before .args .state) (sym (c .before .before .counted .ensures) ∙ c .before .if1 .left))
+    (c .finish .ensures)
 
 pub end-spec : {M : Type 1} → statement M
 end-spec =

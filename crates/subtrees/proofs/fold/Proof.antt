@@ -14,7 +14,8 @@ abbrev μ-loop : tie.MeasureT-loop
 
 loop-again : tie.Need-loop-again Inv-loop μ-loop
 loop-again c =
-    folds-more _ _ (omega (arith, c .before .before .loop-test .taken)) (c .before .subtree .ensures) (c .parent .ensures) (c .before .before .before .loop .inv)
+    folds-more _ _ (omega (arith, c .before .before .loop-test .taken)) (c .before .subtree .ensures) (c .parent .ensures)
+    (c .before .before .before .loop .inv)
 
 pub fold-spec : {M : Type 1} → statement M
 fold-spec =

@@ -35,7 +35,8 @@ returns-6 c =
     let a = c .before .before .before .before .before .before .before .before .before .before .before .before .args in
     push-done (a .key) (a .flag) (a .stacked) (a .chunks) (a .v) (a .stack .now)
     (record { some = omega (arith, c .before .before .before .before .before .before .before .before .if3 .left); fits = c .before .before .before .before .before .before .before .if4 .left; under = c .before .before .before .before .before .before .if5 .left; most = c .before .before .before .before .before .before .before .before .before .if2 .left })
-    (c .before .before .before .before .before .before .before .before .before .before .if1 .left) (c .before .before .before .before .fold .ensures) (c .before .before .store .ensures)
+    (c .before .before .before .before .before .before .before .before .before .before .if1 .left) (c .before .before .before .before .fold .ensures)
+    (c .before .before .store .ensures)
 
 pub push-spec : {M : Type 1} → statement M
 push-spec =

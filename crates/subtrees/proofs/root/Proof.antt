@@ -26,8 +26,10 @@ returns-4 : tie.Need-returns-4
 returns-4 c =
     let a = c .before .before .before .before .before .before .before .args in
     let some = c .before .before .before .before .if2 .left in
-    rooted (a .key) (a .flag) (a .stack .now) (a .stacked) (a .v) (omega (arith, some)) (c .before .before .fold .ensures) (c .before .subtree .ensures) (c .parent .ensures)
-    ∙ root-done (a .key) (a .flag) (a .stacked) (a .v) (a .stack .now) (c .before .before .before .before .before .if1 .left) (omega (arith, some)) (c .before .before .before .if3 .left)
+    rooted (a .key) (a .flag) (a .stack .now) (a .stacked) (a .v) (omega (arith, some)) (c .before .before .fold .ensures)
+    (c .before .subtree .ensures) (c .parent .ensures)
+    ∙ root-done (a .key) (a .flag) (a .stacked) (a .v) (a .stack .now) (c .before .before .before .before .before .if1 .left) (omega (arith, some))
+    (c .before .before .before .if3 .left)
 
 pub root-spec : {M : Type 1} → statement M
 root-spec =

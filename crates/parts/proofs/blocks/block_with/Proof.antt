@@ -30,7 +30,8 @@ returns c =
     let start = c .before .before .before .before in
     let a = start .args in
     let first = c .before .before .before .loop .inv in
-    copies-behind 64 (a .n) _ (a .run .now) (omega arith) (copies-padded 64 (a .n) (omega (arith, first .1)) (first .0)) (omega arith) (c .before .loop2 .inv)
+    copies-behind 64 (a .n) _ (a .run .now) (omega arith) (copies-padded 64 (a .n) (omega (arith, first .1)) (first .0)) (omega arith)
+    (c .before .loop2 .inv)
 
 pub block-with-spec : {M : Type 1} → statement M
 block-with-spec =

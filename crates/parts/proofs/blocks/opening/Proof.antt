@@ -10,14 +10,18 @@ use Rattle.parts.proofs.blocks.opening.Tie as tie
 
 returns : tie.Need-returns
 returns c =
-    let k = c .before .before .args in
-    (ap (λ (x : ℕ). k .flag + x) (opens (k .total) (subst (λ (n : ℕ). k .total - 1024 * n ≤ 64) (c .before .chunks-before .ensures) (c .if1 .taken))), omega arith)
+    let k = c .before .before .args in (
+      ap (λ (x : ℕ). k .flag + x)
+          (opens (k .total) (subst (λ (n : ℕ). k .total - 1024 * n ≤ 64) (c .before .chunks-before .ensures) (c .if1 .taken))),
+      omega arith,
+    )
 
 returns-2 : tie.Need-returns-2
 returns-2 c =
     let k = c .before .before .args in (
       sym (add-zero (k .flag))
-          ∙ ap (λ (x : ℕ). k .flag + x) (opened (k .total) (subst (λ (n : ℕ). 64 < k .total - 1024 * n) (c .before .chunks-before .ensures) (c .if1 .left))),
+          ∙ ap (λ (x : ℕ). k .flag + x)
+          (opened (k .total) (subst (λ (n : ℕ). 64 < k .total - 1024 * n) (c .before .chunks-before .ensures) (c .if1 .left))),
       omega arith,
     )
 

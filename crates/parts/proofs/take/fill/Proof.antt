@@ -12,13 +12,18 @@ slice-aggregate-block-with : tie.Need-slice-aggregate-block-with
 slice-aggregate-block-with c =
     let start = c .before .before .before .before .before .before .before in
     let p = start .pre in
-    sym (space-length (start .args .s) (start .args .part .now) (sym (length-map (start .args .s .block) (λ v. v)) ∙ start .good .0 .1 .1 .1 .1 .1 .1 .1 .1 .1 .0 .1 .0 .1) (p .0) (p .1) (p .2) (p .3))
+    sym (space-length (start .args .s) (start .args .part .now)
+    (sym (length-map (start .args .s .block) (λ v. v)) ∙ start .good .0 .1 .1 .1 .1 .1 .1 .1 .1 .1 .0 .1 .0 .1) (p .0) (p .1) (p .2) (p .3))
 
 block-with-requires : tie.Need-block-with-requires
 block-with-requires c κs =
     let start = c .before .before .before .before .before .before .before in
     let p = start .pre in
-    omega (arith, space-length (start .args .s) (start .args .part .now) (sym (length-map (start .args .s .block) (λ v. v)) ∙ start .good .0 .1 .1 .1 .1 .1 .1 .1 .1 .1 .0 .1 .0 .1) (p .0) (p .1) (p .2) (p .3))
+    omega (
+      arith,
+      space-length (start .args .s) (start .args .part .now)
+          (sym (length-map (start .args .s .block) (λ v. v)) ∙ start .good .0 .1 .1 .1 .1 .1 .1 .1 .1 .1 .0 .1 .0 .1) (p .0) (p .1) (p .2) (p .3),
+    )
 
 go-on-requires : tie.Need-go-on-requires
 go-on-requires c κs =
@@ -26,15 +31,20 @@ go-on-requires c κs =
     let p = start .pre in (
       (sym (length-map (start .args .s .stack) (λ v. v)) ∙ start .good .0 .1 .1 .1 .1 .1 .1 .1 .1 .0 .1 .0 .1),
       c .before .before .before .before .block-with .ok .1 .0 .1,
-      fills-full (start .args .s) (start .args .part .now) (sym (length-map (start .args .s .block) (λ v. v)) ∙ start .good .0 .1 .1 .1 .1 .1 .1 .1 .1 .1 .0 .1 .0 .1) (p .0) (p .1) (p .2) (p .3),
+      fills-full (start .args .s) (start .args .part .now)
+          (sym (length-map (start .args .s .block) (λ v. v)) ∙ start .good .0 .1 .1 .1 .1 .1 .1 .1 .1 .1 .0 .1 .0 .1) (p .0) (p .1) (p .2) (p .3),
     )
 
 returns : tie.Need-returns
 returns c =
     let start = c .before .before .before .before .before .before .before .before .before .before .before .before .before .before .before .before .before in
     let p = start .pre in
-    fills (start .args .s) (start .args .part .now) (sym (length-map (start .args .s .block) (λ v. v)) ∙ start .good .0 .1 .1 .1 .1 .1 .1 .1 .1 .1 .0 .1 .0 .1) (p .0) (p .1) (p .2) (p .3)
-    (c .before .before .before .before .before .before .before .before .start-of .ensures) (c .before .before .before .before .before .before .before .flag-in .ensures) (c .before .before .before .before .before .before .before .before .before .block-with .ensures) (c .before .before .before .before .go-on .ensures) (c .take-on .ensures)
+    fills (start .args .s) (start .args .part .now)
+    (sym (length-map (start .args .s .block) (λ v. v)) ∙ start .good .0 .1 .1 .1 .1 .1 .1 .1 .1 .1 .0 .1 .0 .1) (p .0) (p .1) (p .2) (p .3)
+    (c .before .before .before .before .before .before .before .before .start-of .ensures)
+    (c .before .before .before .before .before .before .before .flag-in .ensures)
+    (c .before .before .before .before .before .before .before .before .before .block-with .ensures)
+    (c .before .before .before .before .go-on .ensures) (c .take-on .ensures)
 
 pub fill-spec : {M : Type 1} → statement M
 fill-spec =

@@ -9,8 +9,10 @@ use Rattle.parts.proofs.take.put_in.Tie as tie
 returns : tie.Need-returns
 returns c =
     let start = c .before .before .before .before .before .before .before .before .before .before .before .before in
-    puts (start .args .s) (start .args .part .now) (sym (length-map (start .args .s .block) (λ v. v)) ∙ start .good .0 .1 .1 .1 .1 .1 .1 .1 .1 .1 .0 .1 .0 .1) (start .pre .0)
-    (sym (length-map (start .args .s .stack) (λ v. v)) ∙ start .good .0 .1 .1 .1 .1 .1 .1 .1 .1 .0 .1 .0 .1) (c .before .before .before .clear .ensures)
+    puts (start .args .s) (start .args .part .now)
+    (sym (length-map (start .args .s .block) (λ v. v)) ∙ start .good .0 .1 .1 .1 .1 .1 .1 .1 .1 .1 .0 .1 .0 .1) (start .pre .0)
+    (sym (length-map (start .args .s .stack) (λ v. v)) ∙ start .good .0 .1 .1 .1 .1 .1 .1 .1 .1 .0 .1 .0 .1)
+    (c .before .before .before .clear .ensures)
     (c .before .before .before .before .before .before .block-with .ensures)
 
 pub put-in-spec : {M : Type 1} → statement M

@@ -37,10 +37,12 @@ loop-again : tie.Need-loop-again Inv-loop μ-loop
 loop-again c =
     let start = c .before .before .before .before .before .before .before .before .before .before .before in
     let a = start .args in
-    went-more (a .key) (a .flag) (a .chain) (a .stack .now) (a .stacked) (a .total) (a .part .now) (start .pre .1) (c .before .before .before .before .before .before .before .before .loop .inv) (c .before .before .before .before .step .ensures .0)
+    went-more (a .key) (a .flag) (a .chain) (a .stack .now) (a .stacked) (a .total) (a .part .now) (start .pre .1)
+    (c .before .before .before .before .before .before .before .before .loop .inv) (c .before .before .before .before .step .ensures .0)
 
 add-at : tie.Need-add-at Inv-loop μ-loop
-add-at c = let w = loop-again c in omega (arith, w .low, c .before .before .before .before .before .before .before .before .before .before .before .pre .1 .limit)
+add-at c = let w = loop-again c in omega
+    (arith, w .low, c .before .before .before .before .before .before .before .before .before .before .before .pre .1 .limit)
 
 loop-less : tie.Need-loop-less Inv-loop μ-loop
 loop-less c = let w = loop-again c in omega (arith, w .low, c .before .before .before .before .step .ensures .1)

@@ -12,7 +12,9 @@ returns : tie.Need-returns
 returns c =
     let start = c .before .before .before in
     let s = start .args .s in
-    c .put-in .ensures ∙ ap (stored (s .keyed) (s .key)) (takes-put s (start .args .part .now) (sym (length-map (start .args .s .block) (λ v. v)) ∙ start .good .0 .1 .1 .1 .1 .1 .1 .1 .1 .1 .0 .1 .0 .1) (start .pre .0) (omega arith))
+    c .put-in .ensures ∙ ap (stored (s .keyed) (s .key))
+    (takes-put s (start .args .part .now) (sym (length-map (start .args .s .block) (λ v. v)) ∙ start .good .0 .1 .1 .1 .1 .1 .1 .1 .1 .1 .0 .1 .0 .1)
+    (start .pre .0) (omega arith))
 
 take-on-requires : tie.Need-take-on-requires
 take-on-requires c κs =
@@ -23,7 +25,8 @@ returns-2 : tie.Need-returns-2
 returns-2 c =
     let start = c .before .before .before .before in
     let s = start .args .s in
-    c .take-on .ensures ∙ ap (stored (s .keyed) (s .key)) (takes-none s (start .args .part .now) (start .pre .0) (c .before .if2 .taken) (start .pre .2))
+    c .take-on .ensures ∙ ap (stored (s .keyed) (s .key))
+    (takes-none s (start .args .part .now) (start .pre .0) (c .before .if2 .taken) (start .pre .2))
 
 pub take-in-spec : {M : Type 1} → statement M
 take-in-spec =

@@ -9,7 +9,9 @@ returns c =
     let start = c .before .before .before .before .before .before .before .before .before .before .before .before .before .before .before .before in
     let a = start .args in
     let w = c .before .before .before .before .before .before .before .before .steps .ensures in
-    takes-on (a .s .keyed) (a .s .key) (a .s .chain) (a .s .stack) (a .s .stacked) (a .s .total) (a .part .now) (c .before .before .before .before .before .before .before .before .before .before .before .start-of .ensures) (c .before .before .before .before .before .before .before .before .before .before .flag-in .ensures)
+    takes-on (a .s .keyed) (a .s .key) (a .s .chain) (a .s .stack) (a .s .stacked) (a .s .total) (a .part .now)
+    (c .before .before .before .before .before .before .before .before .before .before .before .start-of .ensures)
+    (c .before .before .before .before .before .before .before .before .before .before .flag-in .ensures)
     (w .0) (w .1) (c .before .before .clear .ensures) (c .before .before .before .before .block-with .ensures)
 
 pub take-on-spec : {M : Type 1} → statement M

@@ -24,7 +24,8 @@ returns-4 : tie.Need-returns-4
 returns-4 c =
     let k = c .before .before .before .before .before .args in
     count-none (k .total) (k .held) (k .stacked) (c .before .before .before .before .if1 .left)
-    (c .before .before .if2 .left ∙ c .before .before .before .held-after .ensures) (omega (arith, c .if3 .left, ap ones (c .before .chunks-before .ensures)))
+    (c .before .before .if2 .left ∙ c .before .before .before .held-after .ensures)
+    (omega (arith, c .if3 .left, ap ones (c .before .chunks-before .ensures)))
 
 pub counted-spec : {M : Type 1} → statement M
 counted-spec = tie.close (tie.spec returns (λ c κs. search needs) returns-2 (λ c κs. search needs) returns-3 returns-4)
