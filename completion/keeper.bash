@@ -5,7 +5,7 @@ _keeper() {
     local word=${COMP_WORDS[COMP_CWORD]} before=${COMP_WORDS[COMP_CWORD - 1]} options
     COMPREPLY=()
     if [ "$COMP_CWORD" = 1 ]; then
-        mapfile -t COMPREPLY < <(compgen -W "append root info letter check find verify repair help --version -h" -- "$word")
+        mapfile -t COMPREPLY < <(compgen -W "append root info letter check find verify repair digest help --version -h" -- "$word")
         return
     fi
     case $before in
@@ -22,6 +22,7 @@ _keeper() {
     find) options="--size --key" ;;
     verify) options="--records --quiet --key" ;;
     repair) options="--wait --key" ;;
+    digest) options="--check --quiet --key" ;;
     *) options= ;;
     esac
     case $word in

@@ -17,16 +17,23 @@ static int comma;
 static char closing[8]; /* the brackets that are open, the innermost last */
 static size_t opened;
 static char holds[1024];
+static int write_error; /* errno of the first line that could not be written, where that was noticed then */
 
 int json_asked(void) { return command != NULL; }
+
+static void remember_error(void) {
+    if (ferror(stdout) && write_error == 0) write_error = errno;
+}
 
 void line(const char *format, ...) {
     va_list values;
     if (command) return;
     va_start(values, format);
+    errno = 0;
     vprintf(format, values);
     va_end(values);
     putchar('\n');
+    remember_error();
 }
 
 /* ---- text */
@@ -151,8 +158,10 @@ void answer_line(void) {
     if (!begun()) return;
     put_close_all();
     fclose(out);
+    errno = 0;
     fwrite(object, 1, object_length, stdout);
     puts("}");
+    remember_error();
     free(object);
     out = NULL;
 }
@@ -168,7 +177,7 @@ int answer_end(int status) {
     put_close_all();
     put_number("status", (uint64_t)status);
     answer_line();
-    errno = 0;
+    errno = write_error;
     if (fflush(stdout) == 0 && !ferror(stdout)) return status;
     note("cannot write to standard output: %s%s%s", errno ? strerror(errno) : "an earlier part was lost", holds[0] ? "; all the same " : "", holds);
     return FAILED;

@@ -11,5 +11,6 @@ int check(const Asked *asked);
 int find(const Asked *asked);
 int verify(const Asked *asked);
 int repair(const Asked *asked);
+int digest(const Asked *asked);
 
 #endif

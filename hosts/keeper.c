@@ -40,11 +40,14 @@ static const char usage[] =
     "keeper find LOG RECORD LETTER          compares an accepted letter with the log: the same, or two strings of one digest\n"
     "keeper verify LOG [--records]          works every inner node out anew, and with the kept records every leaf\n"
     "keeper repair LOG COPY                 mends a damaged log, after it is copied to COPY\n"
+    "keeper digest [FILE..]                 the digest of each file, or of standard input, -, of any length: a line each, as b3sum has it\n"
+    "keeper digest --check [LIST..]         takes such lists, and says of each file in them whether it is as listed: OK, or FAILED\n"
     "\n"
     "root, letter and find take --size N: the log as it was at that size. Every command takes --json: one object, as keeper(1) has it.\n"
-    "All that work on a log or a letter take --key FILE, of exactly 32 bytes, - for standard input: the log is keyed, from its first append on.\n"
-    "info tells of a keyed log without the key too.\n"
-    "append, verify and root --records say on a terminal every second how far they are; with --quiet they do not.\n"
+    "All that work on a log, a letter or a digest take --key FILE, of exactly 32 bytes, - for standard input: the log is keyed, from its first\n"
+    "append on. info tells of a keyed log without the key too.\n"
+    "append, verify, root --records and digest say on a terminal every second how far they are; with --quiet they do not, and digest --check\n"
+    "leaves out the files that are as listed.\n"
     "LOG is a file, made by the first append. Files and folders are appended whole or not at all; of a stream all is kept\n"
     "that came in whole. Exit status: 0 done; 1 refused, with the number of the rules; 2 wrong use, or something failed;\n"
     "3 another program appends to the log.\n";
@@ -75,6 +78,7 @@ static const struct {
     {"find", "--size --key", find},
     {"verify", "--records --quiet --key", verify},
     {"repair", "--wait --key", repair},
+    {"digest", "--check --quiet --key", digest},
     {"help", "", help},
     {"--help", "", help},
     {"-h", "", help},

@@ -14,9 +14,11 @@
 enum { KEY = 32 };
 const keeper_mode plain = {0};
 
-/* The mode, and the key as it comes in: one byte more than a key has, so that a longer one is noticed. */
+/* The mode, the state of a digest in parts, which has the key's words, and the key as it comes in: one byte more than a key has, so that a longer
+   one is noticed. */
 static struct {
     keeper_mode mode;
+    keeper_parts parts;
     uint8_t read[KEY + 1];
 } held;
 static const char *taken_from; /* NULL for standard input */
@@ -41,6 +43,11 @@ int take_key(const char *path) {
 
 const keeper_mode *mode_taken(void) { return &held.mode; }
 
+keeper_parts *parts_begun(void) {
+    keeper_parts_begin(&held.mode, &held.parts);
+    return &held.parts;
+}
+
 /* What digests have left of it on the stack, below where it is forgotten. */
 __attribute__((noinline)) static void wipe_stack(void) {
     uint8_t below[1 << 15];
@@ -49,6 +56,7 @@ __attribute__((noinline)) static void wipe_stack(void) {
 
 void forget_key(void) {
     explicit_bzero(held.mode.key, sizeof held.mode.key);
+    explicit_bzero(&held.parts, sizeof held.parts);
     explicit_bzero(held.read, sizeof held.read);
     wipe_stack();
 }

@@ -13,6 +13,9 @@ int take_key(const char *path);
 /* The mode of this run: that of the key, or plain where none was taken. */
 const keeper_mode *mode_taken(void);
 
+/* A digest in parts in that mode, with nothing in it. There is one at a time: its state has the key's words, and so stands where the key does. */
+keeper_parts *parts_begun(void);
+
 /* The key leaves memory: behind each command, and before that where much is written behind its last digest. The mode stays keyed, so that a digest which
    came all the same would be no plain one. */
 void forget_key(void);

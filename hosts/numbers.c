@@ -26,6 +26,7 @@ static const Words words[] = {
     [KEEPER_DAMAGED_NODES] = {"a node above the record is not the digest of the two nodes below it",
                             "The log file is damaged: keeper verify looks further."},
     [KEEPER_LENGTHS_OFF] = {"the lengths of the records do not add up to their joined bytes", "This is a fault of the host: report it."},
+    [KEEPER_PARTS_OFF] = {"the input is longer than 1,099,511,627,776 bytes", "Cut it into files that are not, and take the digest of each."},
     [KEEPER_NOT_A_KEY] = {"the key is not of 32 bytes", "Name the file that has the league's key: 32 bytes and nothing else, not even a line end."},
 };
 

@@ -28,6 +28,7 @@ typedef struct {
 static const Option options[] = {
     FLAG("--json", json), FLAG("--help", help), FLAG("-h", help), FLAG("--bytes", bytes), FLAG("--stream", stream),
     FLAG("--acknowledge", acknowledge), FLAG("--keep-records", keep_records), FLAG("--show", show), FLAG("--records", records), FLAG("--quiet", quiet),
+    FLAG("--check", check),
     VALUE("--folder", folder), VALUE("--size", size), VALUE("--record", record), VALUE("--records-to", records_to), VALUE("--page", page),
     VALUE("--wait", wait), VALUE("--key", key),
 };

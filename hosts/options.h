@@ -7,7 +7,7 @@
 /* What was asked for. An option that was not given is 0 or NULL. */
 typedef struct {
     const char *command;
-    int json, help, bytes, stream, acknowledge, keep_records, show, records, quiet;
+    int json, help, bytes, stream, acknowledge, keep_records, show, records, quiet, check;
     const char *folder, *size, *record, *records_to, *page, *wait, *key;
     char **words; /* what is no option */
     int count;

@@ -5,7 +5,7 @@
    What the caller owes, and nothing checks:
    - each pointer is good for its length, to read or to write; one of length 0 is not looked at and may be NULL;
    - no length is longer than the object behind its pointer, which C keeps below 2^63 bytes;
-   - a mode and a result pointer are not NULL; they, and the 32-bit numbers of a slice, are aligned as their types are;
+   - a mode, a keeper_parts and a result pointer are not NULL; they, and the 32-bit numbers of a slice, are aligned as their types are;
    - what a call writes, results too, overlaps nothing else that it is lent: so the finder's two buffers lie apart.
    No proof compares this file with crates/keeper/src/lib.rt; outside/ calls every function by it. */
 #ifndef KEEPER_H
@@ -51,6 +51,9 @@ enum {
     /* 15 is struck: it was for a letter of more than 32 items, which no log needs. No call answers it, and it will never mean anything else */
     /* lengths do not add up to the joined records: a record was left out or cut, or a length is another's; join them again, one length for each */
     KEEPER_LENGTHS_OFF = 16,
+    /* digest in parts: a part that would pass 2^40 bytes in all, a state with a total above that, or one whose counts are not its total's: the input
+       is too long for it, or the state is damaged; begin again, with the first byte */
+    KEEPER_PARTS_OFF = 17,
     /* key not 32 bytes: take the league's key whole, and nothing with it */
     KEEPER_NOT_A_KEY = 24
 };
@@ -62,6 +65,22 @@ typedef struct keeper_mode {
     uint32_t keyed;
     uint8_t key[32];
 } keeper_mode;
+
+/* The digest of input that comes in parts, between two of them: keeper_parts_begin makes it, keeper_parts_add and keeper_parts_end go on from it. It
+   is the caller's own, holds no pointer, and may be copied: each copy goes on by itself. A caller may read total. The other fields are for those
+   calls (RULES 5.7): held and stacked have to be those of the total, or the number is 17; the rest is hashed as it stands, so that a state which was
+   changed, or never begun, may get an answer that is no digest of anybody's input. Any bytes get an answer. In a keyed mode the key is among them,
+   and in every mode some of the input: the bytes of a state are the caller's to wipe. */
+typedef struct keeper_parts {
+    uint64_t total;      /* byte 0: how many bytes were taken in all */
+    uint64_t held;       /* byte 8: how many of them the block holds */
+    uint32_t stacked;    /* byte 16: how many finished subtrees the stack holds */
+    uint32_t keyed;      /* byte 20: 0 is plain, any other number keyed */
+    uint32_t key[8];     /* byte 24: the key's words */
+    uint32_t chain[8];   /* byte 56: the chaining words of the held block */
+    uint32_t stack[240]; /* byte 88: finished subtrees, eight words each */
+    uint8_t block[64];   /* byte 1,048: the held block. 1,112 bytes in all, none of them between fields */
+} keeper_parts;
 
 /* The kinds of a stored node. */
 enum {
@@ -84,6 +103,18 @@ uint32_t keeper_mode_keyed(const uint8_t *key, size_t key_len, keeper_mode *mode
 
 /* The digest, BLAKE3's hash of 32 bytes in that mode, of any bytes, into the first 32 bytes of out. 6. */
 uint32_t keeper_digest(const keeper_mode *mode, const uint8_t *bytes, size_t bytes_len, uint8_t *out, size_t out_len);
+
+/* A digest in parts, begun in that mode: nothing is taken yet. The state keeps the mode, and the two calls below take none. Every byte of the state
+   is written, whatever it was. It is never refused. */
+uint32_t keeper_parts_begin(const keeper_mode *mode, keeper_parts *state);
+
+/* The next bytes of the input, from none up. However an input is cut into parts, the state behind the last of them is the same, to the byte. A part
+   of no bytes leaves every byte of the state. 17, and then the state is as it was. */
+uint32_t keeper_parts_add(keeper_parts *state, const uint8_t *part, size_t part_len);
+
+/* The digest of all bytes that were added, as keeper_digest gives it for them at once in the mode that the state was begun in, into the first 32
+   bytes of out. The state is only read: more may be added. 17, 6. */
+uint32_t keeper_parts_end(const keeper_parts *state, uint8_t *out, size_t out_len);
 
 /* The size of so many leaves: 2n minus the number of ones in n. 2. */
 uint32_t keeper_size(uint64_t leaves, uint64_t *size);

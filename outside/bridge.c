@@ -4,8 +4,8 @@
    part (4 each), the parts' bytes. A part is a lent buffer or a result variable. An answer: whether a byte around a part was changed (1), the
    call's number (4), the parts' bytes. All little-endian. Placing, bit 0: a part ends where its room ends, else it begins where that begins;
    bit 1: an empty part has a null pointer. Next to its room on either side is a page that nobody may read or write, and a call may not write
-   to a part that it only reads: a library that does ends this program, and that is a difference too. A mode is a part as any other. A part of
-   numbers has the length of whole numbers, so that it is aligned where it ends with its room too. */
+   to a part that it only reads: a library that does ends this program, and that is a difference too. A mode is a part as any other, and so is the
+   state of a digest in parts. A part of numbers has the length of whole numbers, so that it is aligned where it ends with its room too. */
 #include <stddef.h>
 #include <stdint.h>
 #include <stdio.h>
@@ -23,6 +23,7 @@ typedef struct {
 static Part parts[PARTS];
 static uint64_t numbers[NUMBERS];
 _Static_assert(sizeof(keeper_mode) == 36 && offsetof(keeper_mode, keyed) == 0 && offsetof(keeper_mode, key) == 4, "a mode is its number and its key");
+_Static_assert(sizeof(keeper_parts) == 1112, "a state has no byte between its fields");
 
 /* ---- the calls, by the names and in the order of keeper.h */
 
@@ -32,10 +33,14 @@ _Static_assert(sizeof(keeper_mode) == 36 && offsetof(keeper_mode, keyed) == 0 &&
 #define WORDS(I) U32(I), parts[I].length / sizeof(uint32_t)
 #define SIZE(I) ((size_t *)(void *)parts[I].bytes)
 #define MODE(I) ((keeper_mode *)(void *)parts[I].bytes)
+#define STATE(I) ((keeper_parts *)(void *)parts[I].bytes)
 
 static uint32_t mode_plain(void) { return keeper_mode_plain(MODE(0)); }
 static uint32_t mode_keyed(void) { return keeper_mode_keyed(BUFFER(0), MODE(1)); }
 static uint32_t digest(void) { return keeper_digest(MODE(0), BUFFER(1), BUFFER(2)); }
+static uint32_t parts_begin(void) { return keeper_parts_begin(MODE(0), STATE(1)); }
+static uint32_t parts_add(void) { return keeper_parts_add(STATE(1), BUFFER(0)); }
+static uint32_t parts_end(void) { return keeper_parts_end(STATE(0), BUFFER(1)); }
 static uint32_t size(void) { return keeper_size(numbers[0], U64(0)); }
 static uint32_t leaf_position(void) { return keeper_leaf_position(numbers[0], U64(0)); }
 static uint32_t leaf_count(void) { return keeper_leaf_count(numbers[0], U64(0)); }
@@ -62,6 +67,17 @@ static uint32_t append_wide(void) {
     return number;
 }
 
+/* A digest in parts from its begin to its end: the second part's bytes in parts of the lengths in the third. The first number that is not 0. */
+static uint32_t parts_cut(void) {
+    const uint8_t *at = parts[1].bytes;
+    uint32_t number = keeper_parts_begin(MODE(0), STATE(3));
+    for (size_t i = 0; number == 0 && i < parts[2].length / sizeof(uint32_t); i++) {
+        number = keeper_parts_add(STATE(3), at, U32(2)[i]);
+        if (at) at += U32(2)[i];
+    }
+    return number ? number : keeper_parts_end(STATE(3), BUFFER(4));
+}
+
 /* No call of the library: writes one byte beside a part, which has to be noticed. */
 static uint32_t stray(void) {
     if (parts[0].bytes == parts[0].room) parts[0].bytes[parts[0].length] = 0;
@@ -69,11 +85,17 @@ static uint32_t stray(void) {
     return 0;
 }
 
-/* No call of the library: how this compiler lays out a mode, for the other side to compare. */
+/* No call of the library: how this compiler lays out a mode and a state, for the other side to compare. Sizes, and of each field where it begins and
+   how long it is. */
+#define FIELD(TYPE, NAME) offsetof(TYPE, NAME), sizeof((TYPE *)0)->NAME
 static uint32_t layout(void) {
-    *U64(0) = sizeof(keeper_mode);
-    *U64(1) = offsetof(keeper_mode, keyed), *U64(2) = sizeof MODE(0)->keyed;
-    *U64(3) = offsetof(keeper_mode, key), *U64(4) = sizeof MODE(0)->key;
+    const uint64_t mode[] = {sizeof(keeper_mode), FIELD(keeper_mode, keyed), FIELD(keeper_mode, key)};
+    const uint64_t state[] = {sizeof(keeper_parts), FIELD(keeper_parts, total), FIELD(keeper_parts, held), FIELD(keeper_parts, stacked),
+                              FIELD(keeper_parts, keyed), FIELD(keeper_parts, key), FIELD(keeper_parts, chain), FIELD(keeper_parts, stack),
+                              FIELD(keeper_parts, block)};
+    if (parts[0].length != sizeof mode || parts[1].length != sizeof state) return UINT32_MAX;
+    memcpy(parts[0].bytes, mode, sizeof mode);
+    memcpy(parts[1].bytes, state, sizeof state);
     return 0;
 }
 
@@ -86,6 +108,9 @@ static const struct {
     {"mode_plain", mode_plain, 0},
     {"mode_keyed", mode_keyed, 1},
     {"digest", digest, 2},
+    {"parts_begin", parts_begin, 1},
+    {"parts_add", parts_add, 1},
+    {"parts_end", parts_end, 1},
     {"size", size, 0},
     {"leaf_position", leaf_position, 0},
     {"leaf_count", leaf_count, 0},
@@ -99,6 +124,7 @@ static const struct {
     {"store_inner", store_inner, 1},
     {"read_node", read_node, 1},
     {"append_wide", append_wide, 3},
+    {"parts_cut", parts_cut, 3},
     {"stray", stray, 0},
     {"layout", layout, 0},
 };

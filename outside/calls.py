@@ -9,6 +9,9 @@ PARTS = {
     "mode_plain": ("mode",),
     "mode_keyed": ("key", "mode"),
     "digest": ("mode", "data", "out"),
+    "parts_begin": ("mode", "state"),
+    "parts_add": ("part", "state"),
+    "parts_end": ("state", "out"),
     "size": ("size",),
     "leaf_position": ("position",),
     "leaf_count": ("leaves",),
@@ -22,18 +25,22 @@ PARTS = {
     "store_inner": ("digest", "out", "length"),
     "read_node": ("bytes", "kind", "digest_out", "record_at", "record_len"),
     "append_wide": ("mode", "joined", "lengths", "end", "new_size", "hashes"),
+    "parts_cut": ("mode", "input", "lengths", "state", "out"),
     "stray": ("part",),
-    "layout": ("size", "keyed_at", "keyed_size", "key_at", "key_size"),
+    "layout": ("of a mode", "of a state"),
 }
-# Those that are no calls of the library, and one that is another once more.
-NO_CALLS = ("append_wide", "stray", "layout")
+# Those that are no calls of the library: one that is another once more, several in a row, and two of the bridge alone.
+NO_CALLS = ("append_wide", "parts_cut", "stray", "layout")
 # Those that work out a digest, in the mode that is their first part.
-MODED = tuple(call for call, parts in PARTS.items() if parts[0] == "mode" and len(parts) > 1)
+MODED = tuple(call for call, parts in PARTS.items() if parts[0] == "mode" and len(parts) > 1 and "state" not in parts)
+# Where a case has the number of its mode: the part, and the place in it.
+NUMBER_AT = {**dict.fromkeys((*MODED, "parts_begin", "parts_cut"), (0, 0)), "parts_add": (1, 20), "parts_end": (0, 20)}
 
 
 def is_keyed(case):
-    """Whether a case works out a digest in a keyed mode."""
-    return case.call in MODED and any(case.parts[0][:4])
+    """Whether a case is in a keyed mode."""
+    part, place = NUMBER_AT.get(case.call, (0, 0))
+    return case.call in NUMBER_AT and any(case.parts[part][place:place + 4])
 
 
 def u64(number):
@@ -51,9 +58,15 @@ def mode_bytes(keyed, key):
     return struct.pack("<I32s", keyed, key)
 
 
+def state_bytes(total, held, stacked, keyed, key, chain, stack, block):
+    """The state of a digest in parts as C has it, 1,112 bytes: its numbers, then its words and its block, as bytes. What is missing is zeros."""
+    return struct.pack("<QQII32s32s960s64s", total, held, stacked, keyed, key, chain, stack, block)
+
+
 PLAIN = mode_bytes(0, bytes(32))
-# What the bytes of a mode are before a call that makes one.
+# What the bytes of a mode, and of a state, are before a call that makes one.
 BEFORE = bytes(range(100, 136))
+BEFORE_STATE = bytes(7 * place % 256 for place in range(1112))
 
 
 def mode_plain_case(before=BEFORE):
@@ -67,13 +80,33 @@ def mode_keyed_case(key, before=BEFORE):
 
 
 def layout_case():
-    """Where the C compiler has the fields of a mode, into variables of 64 bits."""
-    return Case("layout", (), [u64(99)] * 5)
+    """Where the C compiler has the fields of a mode and of a state, into numbers of 64 bits: a size, and two for each field."""
+    return Case("layout", (), [u64(99) * 5, u64(99) * 17])
 
 
 def digest_case(data, room, mode=PLAIN):
     """A digest, into so many bytes."""
     return Case("digest", (), [mode, data, b"\7" * room])
+
+
+def begin_case(mode=PLAIN, before=BEFORE_STATE):
+    """A digest in parts begun, over what was there before."""
+    return Case("parts_begin", (), [mode, before])
+
+
+def add_case(state, part):
+    """A part added to a state."""
+    return Case("parts_add", (), [part, state])
+
+
+def end_case(state, room):
+    """A state ended, the digest into so many bytes."""
+    return Case("parts_end", (), [state, b"\x4d" * room])
+
+
+def cut_case(data, lengths, mode=PLAIN):
+    """A digest in parts of these lengths, from its begin to its end."""
+    return Case("parts_cut", (), [mode, data, struct.pack(f"<{len(lengths)}I", *lengths), BEFORE_STATE, b"\x4d" * 32])
 
 
 def number_case(call, number):

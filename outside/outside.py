@@ -5,7 +5,8 @@ A C program, outside/bridge.c, makes each call on buffers that lie against forbi
 result variables too. What the second program says is compared with all of it. Each refusal alone, and every two at once, stand in vectors/, which
 outside/vectors.py holds the library to; here is what such files cannot hold, and no case that they have. The finder's "records" and "pair" are two
 strings of one digest: nobody has such strings, so of its answers only "same" and the refusals are met here. What works out a digest is tried plain
-and keyed, and has a row for each at the end. Batches at the end of a log of 2^32 leaves are tried before that, by full.py.
+and keyed, and has a row for each at the end. Before that the layout of what C and the library share is compared, by layout.py, and batches at the
+end of a log of 2^32 leaves are tried, by full.py.
 
     outside.py                        build the bridge and compare
     outside.py --seed N --rounds N    other random inputs, or more of them
@@ -24,15 +25,15 @@ from pathlib import Path
 sys.path.insert(0, str(Path(__file__).resolve().parent.parent / "second"))
 
 from bridge import Answer, Bridge, build, differences, lines_of, made_wrong, refused, wrong_answers  # noqa: E402
-from calls import MODED, PLAIN, Case, is_keyed, mode_bytes, u32, u64  # noqa: E402
+from calls import MODED, NO_CALLS, NUMBER_AT, PLAIN, Case, is_keyed, mode_bytes, u32, u64  # noqa: E402
 from full import full_agrees  # noqa: E402
 from inputs import cases  # noqa: E402
-from inputs.world import digest_in  # noqa: E402
+from inputs.world import digest_in, mode_in, packed, unpacked  # noqa: E402
 from layout import layout_agrees  # noqa: E402
-from rules import batch, blake3, finder, letters, log, shape, stored  # noqa: E402
+from rules import batch, blake3, finder, letters, log, parts, shape, stored  # noqa: E402
 from rules.log import NODE  # noqa: E402
 
-ROUNDS = 9000
+ROUNDS = 12000
 
 
 # ---- what the second program says of a call: the number, and the parts where it is done; in place of a mode that is only read stands its digest
@@ -49,6 +50,28 @@ def say_mode_keyed(numbers, key, mode):
 
 def say_digest(numbers, digest, data, out):
     return (6, None) if len(out) < NODE else (0, [data, digest(data) + out[NODE:]])
+
+
+def say_parts_begin(numbers, mode, state):
+    return 0, [mode, packed(parts.begin(mode_in(mode)))]
+
+
+def say_parts_add(numbers, part, state):
+    number, after = parts.add(unpacked(state), part)
+    return number, [part, packed(after)]
+
+
+def say_parts_end(numbers, state, out):
+    number, digest = parts.end(unpacked(state))
+    return 6 if number == 0 and len(out) < NODE else number, [state, digest + out[NODE:]]
+
+
+def say_parts_cut(numbers, mode, data, lengths, state, out):
+    after, at = parts.begin(mode_in(mode)), 0
+    for length in struct.unpack(f"<{len(lengths) // 4}I", lengths):
+        after = parts.add(after, data[at:at + length]).state
+        at += length
+    return 0, [mode, data, lengths, packed(after), parts.end(after).digest + out[NODE:]]
 
 
 def say_size(numbers, size):
@@ -128,6 +151,10 @@ CALLS = {
     "mode_plain": Call(say_mode_plain, (0,)),
     "mode_keyed": Call(say_mode_keyed, (0, 24)),
     "digest": Call(say_digest, (0, 6)),
+    "parts_begin": Call(say_parts_begin, (0,)),
+    "parts_add": Call(say_parts_add, (0, 17)),
+    "parts_end": Call(say_parts_end, (0, 17, 6)),
+    "parts_cut": Call(say_parts_cut, (0,)),
     "size": Call(say_size, (0, 2)),
     "leaf_position": Call(say_leaf_position, (0, 5)),
     "leaf_count": Call(say_leaf_count, (0, 1)),
@@ -144,7 +171,7 @@ CALLS = {
 
 
 # The rows of the table: a call, and whether its mode is keyed.
-ROWS = [(name, keyed) for name in CALLS for keyed in ((False, True) if name in MODED else (False,))]
+ROWS = [(name, keyed) for name in CALLS for keyed in ((False, True) if name in NUMBER_AT else (False,))]
 
 
 def said(case):
@@ -188,8 +215,8 @@ def self_test(bridge, given):
 
 
 def row_name(row):
-    """The name of a row."""
-    return f"keeper_{row[0]}" + (", keyed" if row[1] else "")
+    """The name of a row. A digest in parts from its begin to its end is three calls."""
+    return ("parts, begin to end" if row[0] in NO_CALLS else f"keeper_{row[0]}") + (", keyed" if row[1] else "")
 
 
 def table(counts):

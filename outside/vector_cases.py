@@ -4,8 +4,8 @@ from collections import namedtuple
 from pathlib import Path
 
 from bridge import Answer, refused
-from calls import (append_case, check_case, digest_case, find_case, inner_case, leaf_case, many_case, mode_bytes, mode_keyed_case, mode_plain_case,
-                   number_case, read_case, root_case, u32, u64, write_case)
+from calls import (add_case, append_case, begin_case, check_case, cut_case, digest_case, end_case, find_case, inner_case, leaf_case, many_case,
+                   mode_bytes, mode_keyed_case, mode_plain_case, number_case, read_case, root_case, state_bytes, u32, u64, write_case)
 
 VECTORS = Path(__file__).resolve().parent.parent / "vectors"
 PUBLISHED, PUBLISHED_KEY = "blake3-published.txt", b"whats the Elvish word for friend"
@@ -23,6 +23,11 @@ def octets(form):
     return bytes.fromhex(form)
 
 
+def state_in(forms):
+    """A state, as C has it: numbers, and bytes whose zeros at the end are left out."""
+    return state_bytes(**{name: octets(form) if name in ("key", "chain", "stack", "block") else int(form) for name, form in forms.items()})
+
+
 def each(kind):
     """A list of such values."""
     return lambda forms: [kind(form) for form in forms]
@@ -36,6 +41,7 @@ KINDS = {
     **dict.fromkeys(("records", "roots"), each(octets)),
     **dict.fromkeys(("kind", "found"), str),
     "items": each(each(int)),
+    "state": state_in,
 }
 
 
@@ -96,6 +102,22 @@ def keyed_asked(given, answer):
 
 def digest_asked(given, answer):
     return asked_once(digest_case(given["input"], NODE, mode_in(given)), answer, lambda: [answer["digest"]])
+
+
+def begin_asked(given, answer):
+    return asked_once(begin_case(mode_in(given)), answer, lambda: [answer["state"]])
+
+
+def add_asked(given, answer):
+    return asked_once(add_case(given["state"], given["part"]), answer, lambda: [answer["state"]])
+
+
+def end_asked(given, answer):
+    return asked_once(end_case(given["state"], NODE), answer, lambda: [answer["digest"]])
+
+
+def cut_asked(given, answer):
+    return asked_once(cut_case(given["input"], given["lengths"], mode_in(given)), answer, lambda: [answer["state"], answer["digest"]])
 
 
 def number_asked(call, name, result):
@@ -171,6 +193,10 @@ ASKED = {
     "mode_keyed": keyed_asked,
     "digest": digest_asked,
     "keyed_digest": digest_asked,
+    "parts": cut_asked,
+    "parts_begin": begin_asked,
+    "parts_add": add_asked,
+    "parts_end": end_asked,
     "size": number_asked("size", "leaves", "size"),
     "leaf_position": number_asked("leaf_position", "index", "position"),
     "leaf_count": number_asked("leaf_count", "size", "leaves"),

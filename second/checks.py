@@ -1,4 +1,5 @@
 """The rules tried on published figures, on the marked examples (M1 to M16 of docs/RULES.md) and on each other."""
+import functools
 import zlib
 from collections import Counter
 from pathlib import Path
@@ -7,6 +8,7 @@ from batches import check_batches
 from expected.given import KEYS, LEAGUES, counting_bytes, flips_of, letter_in, log_of, record_of, run_record
 from grown import grown
 from page import check_page
+from parts import check_parts, in_parts
 from portable.orders import check_orders
 from review import check_review
 from rules.blake3 import PLAIN, Mode, digest, keyed
@@ -32,7 +34,7 @@ def published_figures():
 
 
 def check_mode(name, mode, figures):
-    """Compare one mode with its published figures: a line for each difference, then one for the group."""
+    """Compare the digests of one mode with its published figures: a line for each difference, then one for the group."""
     wrong = 0
     for length, published in figures:
         ours = digest(counting_bytes(length), mode).hex()
@@ -216,9 +218,10 @@ def check_finder(most):
 
 def check():
     """Try the rules on the published figures, on the marked examples and on each other."""
-    figures = list(published_figures())
-    good = check_mode("plain", PLAIN, [(n, plain) for n, plain, _ in figures])
-    good &= check_mode("keyed", LEAGUES[0], [(n, with_key) for n, _, with_key in figures])
+    good, figures = True, list(published_figures())
+    for mode, published in zip(MODES, ([(n, plain) for n, plain, _ in figures], [(n, with_key) for n, _, with_key in figures])):
+        good &= check_mode(mode, MODES[mode], published)
+        good &= check_mode(f"{mode}, in parts", functools.partial(in_parts, MODES[mode]), published)
     good &= check_keys()
     good &= check_marked()
     good &= check_marked_letters()
@@ -226,6 +229,7 @@ def check():
         good &= check_logs(70, name)
         good &= check_refusals(name)
         good &= check_letters(leaves, name)
+    good &= check_parts()
     good &= check_batches()
     good &= check_leagues(4)
     good &= check_finder(9)

@@ -1,4 +1,5 @@
 """The page of rules, docs/RULES.md: its examples have to be as the rules make them, and a section that is cited somewhere has to be there."""
+import itertools
 import re
 from pathlib import Path
 
@@ -6,9 +7,10 @@ from expected.given import KEYS, LEAGUES, counting_bytes
 from grown import grown
 from portable.orders import FROM_7, ORDERS
 from rules.batch import append_many
-from rules.blake3 import KEY, PLAIN, Mode, digest, keyed, words_of
+from rules.blake3 import BLOCK, CHUNK, KEY, PLAIN, Mode, bytes_of, digest, keyed, words_of
 from rules.letters import PANEL_HEAD, PANEL_MOST, WHOLE_LETTER, check_letter, keyed_panel, letter_bytes, letter_of, panel
 from rules.log import LONGEST_RECORD, NODE, append, node, root
+from rules.parts import MOST_BYTES, PLACES, WORDS, State, add, begin, end, finished, held_of, stacked_of
 from rules.plain import largest_power
 from rules.shape import MOST_LEAVES, items_of, leaf_count, leaf_position, nodes_of, size_of
 from rules.stored import stored_inner, stored_leaf
@@ -27,6 +29,17 @@ BATCHES = (
     (FULL, RECORDS, (4, 7, 6), 128), (0, RECORDS, (4, 7, 6), 127), (0, (b"goal", LONGER), (4, len(LONGER)), 31),
     (0, (b"goal", LONGER), (4, len(LONGER)), 32), (0, (LONGER, b"goal"), (len(LONGER), 4), 31),
 )
+# Section 5.7: totals; states by their counts, and the bytes that are added to them.
+TOTALS = (0, 1, BLOCK, BLOCK + 1, CHUNK, CHUNK + 1, 2 * CHUNK, 2 * CHUNK + 1, 3 * CHUNK + 1, 4 * CHUNK + 1, MOST_BYTES)
+STATES = (
+    (0, 0, 0, 0), (0, 1, 0, 0), (1024, 64, 0, 1), (1024, 0, 1, 1),
+    (1025, 1, 1, 0), (1025, 0, 1, 0), (1025, 2, 1, 0), (1025, 1, 0, 0), (1025, 1, 2, 0),
+    *((MOST_BYTES - 5, 59, 30, more) for more in (5, 6)), *((MOST_BYTES, 64, 30, more) for more in (0, 1)), (MOST_BYTES, 64, 29, 0),
+    (MOST_BYTES + 1, 1, 1, 0), (2**64 - 1, 63, 54, 1),
+)
+# Section 4.4: the fields of a state in C, their types and how many bytes they have.
+FIELDS = (("total", "uint64_t", 8), ("held", "uint64_t", 8), ("stacked", "uint32_t", 4), ("keyed", "uint32_t", 4), ("key", "uint32_t[8]", 32),
+          ("chain", "uint32_t[8]", 32), ("stack", "uint32_t[240]", 960), ("block", "uint8_t[64]", 64))
 # Section 9.3: the name of an example, the leaf count, the index.
 ITEMS = (("", 1, 0), ("", 2, 1), ("", 3, 2), ("M14", 5, 2), ("M15", 7, 4), ("M16", 7, 0), ("", 8, 3), ("", 11, 9))
 
@@ -69,6 +82,32 @@ def shape_rows():
     yield f"| | size of {MOST_LEAVES + 1:,} leaves | number {size_of(MOST_LEAVES + 1)[0]} |"
 
 
+def state_of(total, held, stacked, fill=0):
+    """A state with these counts; its other fields are zeros, or have that number everywhere."""
+    return State(total, held, stacked, fill, (fill,) * WORDS, (fill,) * WORDS, (fill,) * WORDS * PLACES, bytes([fill] * BLOCK))
+
+
+def field_rows():
+    """The fields of a state in section 4.4, each behind the one before it."""
+    for (name, kind, size), at in zip(FIELDS, itertools.accumulate((size for _, _, size in FIELDS), initial=0)):
+        yield f"| `{name}` | `{kind}` | {at:,} | {size} |"
+
+
+def count_rows():
+    """The counts of totals in section 5.7."""
+    yield f"| total | {' | '.join('2^40' if total == MOST_BYTES else f'{total:,}' for total in TOTALS)} |"
+    for name, counted in (("held", held_of), ("finished chunks", finished), ("stacked", stacked_of)):
+        yield f"| {name} | {' | '.join(f'{counted(total):,}' for total in TOTALS)} |"
+
+
+def state_rows():
+    """The states of section 5.7."""
+    for total, held, stacked, more in STATES:
+        (number, after), ended = add(state_of(total, held, stacked), bytes(more)), end(state_of(total, held, stacked)).number
+        said = f"done, total {after.total:,}" if number == 0 else f"number {number}"
+        yield f"| {total:,} | {held} | {stacked} | {more} | {said} | {f'number {ended}' if ended else 'done'} |"
+
+
 def item_rows():
     """The rows of section 9.3."""
     for name, leaves, index in ITEMS:
@@ -101,6 +140,8 @@ def batch_rows():
 def order_rows():
     """Rows of section 3."""
     yield f"| mode of a key | {keyed(b'').number} |"
+    for name, call in (("part, added", "parts_add"), ("digest in parts, ended", "parts_end")):
+        yield f"| {name} | {', '.join(sorted({entry.split()[0] for entry in ORDERS[call]}))} |"
     for name, call in (("append", "append"), ("root", "root"), ("letter, written", "letter_write")):
         yield f"| {name} | {', '.join(ORDERS[call])} |"
     if [entry.split()[0] for entry in ORDERS["append_many"][:5]] == ["1", "16", *ORDERS["append"][1:]]:
@@ -129,6 +170,10 @@ def sentences():
     yield "its first two words are {:08x} and {:08x}.".format(*words_of(KEYS[0]))
     yield f"the {len(KEYS[1])} bytes from {KEYS[1][0]} up to {KEYS[1][-1]}."
     yield f"| {keyed(b'').number} | a key is not {KEY} bytes |"
+    yield f"| input of the digest, in parts | 0 bytes | {MOST_BYTES:,} bytes in all, which is 2^40 |"
+    yield f"A state (5.7) is a struct of {sum(size for _, _, size in FIELDS):,} bytes, `keeper_parts`,"
+    yield f"Up to 2^40 bytes it is at most {max(map(stacked_of, (MOST_BYTES - CHUNK, MOST_BYTES)))}."
+    yield f"the block is {in_parts(PLAIN).block[0]:02x} in hexadecimal and {in_parts(PLAIN).block.count(0)} zeros;"
     if PANEL_MOST == PANEL_HEAD + len(longest) + 1 and len(items_of(MOST_LEAVES, 5)) == len(items_of(MOST_LEAVES - 1, 0)) == 32:
         yield f"and {len(items_of(MOST_LEAVES - 1, MOST_LEAVES - 2))} for the last index"
 
@@ -139,6 +184,11 @@ def forgeries(nodes):
     yield letter_bytes(1, 0, nodes[:2 * NODE], []), 3, 1, root(3, nodes).root
 
 
+def in_parts(mode, length=CHUNK + 1):
+    """The state that holds the bytes of section 5.6."""
+    return add(begin(mode), counting_bytes(length)).state
+
+
 def example_bytes():
     """Bytes that stand in the page, in hexadecimal: digests, nodes, letters, what the panels' programs read."""
     for mode in (PLAIN, LEAGUES[0]):
@@ -146,7 +196,9 @@ def example_bytes():
         yield from (digest(data, mode) for data in (b"", b"abc", counting_bytes(1024), counting_bytes(1025)))
         yield from (node(nodes, position) for position in range(4))
         yield from shown_letter(mode)
+        yield bytes_of(in_parts(mode).stack[:WORDS])
     nodes, _ = small_log()
+    yield end(state_of(0, 0, 0)).digest
     yield from (keyed(bytes(KEY)).mode(b""), stored_leaf(RECORDS[0]), stored_inner(node(nodes, 2)), WHOLE_LETTER)
     yield from (noted(), KEYS[0] + noted(LEAGUES[0]))
     yield from (letter for letter, _, _, _ in forgeries(nodes))
@@ -173,6 +225,20 @@ def batches_as_said():
     return keyed_too and all(batch_done(batch, mode)[1] == small_log(mode)[0] for batch in BATCHES[:2] for mode in (PLAIN, LEAGUES[0]))
 
 
+def parts_as_said():
+    """Whether the states of section 5.7 are as it says: those of 1,025 bytes and of one less, by any cut; and the numbers by the counts alone."""
+    good = True
+    for mode in (PLAIN, LEAGUES[0]):
+        data, whole, before = counting_bytes(CHUNK + 1), in_parts(mode), in_parts(mode, CHUNK)
+        cut = [add(add(begin(mode), data[:at]).state, data[at:]).state for at in (0, 1, 1000, CHUNK, CHUNK + 1)]
+        good &= cut == [whole] * len(cut) and whole[:3] == (1025, 1, 1) and whole.chain == mode.starting and before[:3] == (1024, 64, 0)
+        good &= end(whole).digest == mode(data)
+    for total, held, stacked, more in STATES:
+        states = [state_of(total, held, stacked, fill) for fill in (0, 7)]
+        good &= len({(add(state, bytes(more)).number, end(state).number) for state in states}) == 1
+    return good
+
+
 def as_said():
     """Whether the examples get the numbers that the page gives them."""
     nodes, _ = small_log()
@@ -189,7 +255,7 @@ def examples_stand(page):
     """Look for each example in the page, and for digests in it that are none."""
     lines, squeezed = " ".join(page.split()), "".join(page.split())
     made = [data.hex() for data in example_bytes()]
-    rows = (*order_rows(), *shape_rows(), *batch_rows(), *item_rows())
+    rows = (*order_rows(), *field_rows(), *count_rows(), *state_rows(), *shape_rows(), *batch_rows(), *item_rows())
     wanted = [(text, lines) for text in (*rows, *sentences())] + [(text, squeezed) for text in made]
     missing = [text for text, where in wanted if text not in where]
     foreign = [found for found in re.findall("[0-9a-f]{64}", page) if not any(found in one for one in made)]
@@ -221,7 +287,7 @@ def citations_stand(page):
 
 def check_page():
     """Its examples, the numbers that it gives them, and what cites it."""
-    page, told = PAGE.read_text(), as_said() and keyed_as_said() and batches_as_said()
+    page, told = PAGE.read_text(), as_said() and keyed_as_said() and parts_as_said() and batches_as_said()
     if not told:
         print("rules: an example of docs/RULES.md has another number than the page says")
     good = examples_stand(page)

@@ -24,6 +24,7 @@ from expected.keyed_panel import expect_keyed_panel, keyed_panel_stdin
 from expected.letter_run import expect_letter_run
 from expected.log_run import expect_log_run
 from expected.panel import expect_panel, panel_stdin
+from expected.parts_run import expect_parts_run
 from expected.shape_run import expect_shape_run
 from expected.stored_run import expect_stored_run
 from portable.files import verify_vectors, write_vectors
@@ -38,6 +39,7 @@ EXPECTED = {
     "letter_run": expect_letter_run,
     "log_run": expect_log_run,
     "panel": expect_panel,
+    "parts_run": expect_parts_run,
     "shape_run": expect_shape_run,
     "stored_run": expect_stored_run,
 }

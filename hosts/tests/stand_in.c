@@ -111,6 +111,81 @@ uint32_t keeper_digest(const keeper_mode *mode, const uint8_t *bytes, size_t len
     return KEEPER_DONE;
 }
 
+/* ---- a digest in parts (RULES 5.7), byte by byte */
+
+static const uint64_t longest = (uint64_t)1 << 40;
+
+static uint64_t chunks_of(uint64_t total) { return total == 0 ? 0 : (total - 1) / CHUNK; }
+
+static int fits(const keeper_parts *state) {
+    uint64_t total = state->total, held = total == 0 ? 0 : (total - 1) % BLOCK + 1;
+    return total <= longest && state->held == held && state->stacked == (uint32_t)__builtin_popcountll(chunks_of(total));
+}
+
+static Begin begin_of_parts(const keeper_parts *state) {
+    Begin begin = {.flag = state->keyed ? KEYED : 0};
+    memcpy(begin.words, state->keyed ? state->key : starting, sizeof begin.words);
+    return begin;
+}
+
+static void join(const Begin *begin, const uint32_t left[8], uint32_t right[8], uint32_t top) {
+    uint8_t pair[BLOCK];
+    put_words(left, pair);
+    put_words(right, pair + NODE);
+    memcpy(right, begin->words, 32);
+    compress(right, pair, 0, BLOCK, begin->flag | PARENT | top);
+}
+
+/* A full block, behind which a byte comes: into the chain, and with the last of a chunk onto the stack. */
+static void close_block(keeper_parts *state) {
+    Begin begin = begin_of_parts(state);
+    uint64_t chunk = chunks_of(state->total);
+    int is_last = state->total % CHUNK == 0;
+    compress(state->chain, state->block, chunk, BLOCK, begin.flag | ((state->total - 1) % CHUNK < BLOCK ? START : 0) | (is_last ? END : 0));
+    memset(state->block, 0, BLOCK);
+    state->held = 0;
+    if (!is_last) return;
+    for (uint64_t left = chunk; left & 1; left >>= 1) join(&begin, state->stack + 8 * --state->stacked, state->chain, 0);
+    memcpy(state->stack + 8 * state->stacked++, state->chain, 32);
+    memcpy(state->chain, begin.words, 32);
+}
+
+uint32_t keeper_parts_begin(const keeper_mode *mode, keeper_parts *state) {
+    Begin begin = begin_of(mode);
+    memset(state, 0, sizeof *state);
+    state->keyed = mode->keyed != 0;
+    if (mode->keyed) memcpy(state->key, begin.words, 32);
+    memcpy(state->chain, begin.words, 32);
+    return KEEPER_DONE;
+}
+
+uint32_t keeper_parts_add(keeper_parts *state, const uint8_t *part, size_t part_len) {
+    if (!fits(state) || part_len > longest - state->total) return KEEPER_PARTS_OFF;
+    for (size_t i = 0; i < part_len; i++) {
+        if (state->held == BLOCK) close_block(state);
+        state->block[state->held++] = part[i];
+        state->total++;
+    }
+    if (part_len == 0) return KEEPER_DONE;
+    memset(state->block + state->held, 0, BLOCK - state->held);
+    memset(state->stack + 8 * state->stacked, 0, sizeof state->stack - 32 * state->stacked);
+    return KEEPER_DONE;
+}
+
+uint32_t keeper_parts_end(const keeper_parts *state, uint8_t *out, size_t out_len) {
+    if (!fits(state)) return KEEPER_PARTS_OFF;
+    if (out_len < NODE) return KEEPER_OUTPUT_TOO_SHORT;
+    Begin begin = begin_of_parts(state);
+    uint8_t block[BLOCK] = {0};
+    uint32_t chain[8], first = state->total <= BLOCK || (state->total - 1) % CHUNK < BLOCK ? START : 0;
+    memcpy(block, state->block, state->held);
+    memcpy(chain, state->chain, 32);
+    compress(chain, block, chunks_of(state->total), (uint32_t)state->held, begin.flag | first | END | (state->stacked == 0 ? TOP : 0));
+    for (uint32_t i = state->stacked; i-- > 0;) join(&begin, state->stack + 8 * i, chain, i == 0 ? TOP : 0);
+    put_words(chain, out);
+    return KEEPER_DONE;
+}
+
 uint32_t keeper_size(uint64_t leaves, uint64_t *size) {
     if (leaves > most) return KEEPER_TOO_MANY_LEAVES;
     *size = size_of(leaves);

@@ -3,7 +3,7 @@ import json
 import re
 import unittest
 
-from harness import NODES, RECORDS, TOP, HostTest, flipped, keeper, letter_of, nodes_of, said_of, stream_of
+from harness import NODES, RECORDS, TOP, HostTest, digest, flipped, keeper, letter_of, nodes_of, said_of, stream_of
 
 
 class Objects(HostTest):
@@ -52,6 +52,8 @@ class Objects(HostTest):
         self.assertEqual(self.object(0, "repair", self.log, self.folder / "copy")["records"], 5)
         answer = self.object(0, "append", self.log, given=RECORDS[5])
         self.assertEqual((answer["appended"], answer["first_index"], answer["last_index"], answer["size"], answer["hashes"]), (1, 5, 5, 10, 2))
+        answer = self.object(0, "digest", given=RECORDS[5])
+        self.assertEqual(answer["files"], [{"file": "-", "length": len(RECORDS[5]), "digest": digest(RECORDS[5]).hex()}])
         self.assertIn("usage", self.object(0, "help"))
         self.assertRegex(self.object(0, "--version")["version"], r"^\d+\.\d+")
 

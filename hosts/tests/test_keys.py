@@ -56,7 +56,8 @@ class KeyFiles(KeyTest):
                 for words, given in self.every():
                     self.refused(24, *words, "--key", key, given=given)
                 for words in (("check", self.size, self.top.hex()), ("check", 2, self.top.hex()), ("check", self.size, "00"), ("letter", self.log, 99),
-                              ("root", self.log, "--size", 2), ("root", self.folder / "missing"), ("check", self.size, self.top.hex(), self.letter)):
+                              ("root", self.log, "--size", 2), ("root", self.folder / "missing"), ("check", self.size, self.top.hex(), self.letter),
+                              ("digest", self.record), ("digest",), ("digest", "--check"), ("digest", self.folder / "missing")):
                     self.refused(24, *words, "--key", key, given=self.letter.read_bytes())
                 self.refused(24, "append", self.log, "--key", key, given=bytes(20000))
                 self.assertEqual(self.looked_at(), before)
@@ -68,6 +69,7 @@ class KeyFiles(KeyTest):
         for key, word in ((self.folder, "Is a directory"), (self.folder / "missing", "No such file"), (self.log / "key", "Not a directory")):
             self.failed(f"cannot read the key, {key}: {word}", "root", self.log, "--key", key)
             self.failed("cannot read the key", "append", self.folder / "new", "--key", key, given=b"x")
+            self.failed("cannot read the key", "digest", self.record, "--key", key)
         self.assertFalse((self.folder / "new").exists())
 
     def test_fifo_and_link(self):
@@ -256,7 +258,8 @@ class Secret(KeyTest):
         for key in (self.key, self.other, self.file("long", OURS + b"\n"), "-"):
             for form in ((), ("--json",)):
                 words = [("append", self.log, "--keep-records"), *(words for words, _ in self.every()),
-                         ("check", self.size, self.top.hex(), "--show", "--page", self.folder / "page"), ("check", self.size, self.top.hex(), self.letter)]
+                         ("check", self.size, self.top.hex(), "--show", "--page", self.folder / "page"), ("check", self.size, self.top.hex(), self.letter),
+                         ("digest", self.record, self.letter, self.folder / "missing"), ("digest", "--check", self.record)]
                 for each in words:
                     ran = keeper(*each, "--key", key, *form, given=OURS if key == "-" else self.letter.read_bytes())
                     said += [ran.stdout, ran.stderr]

@@ -6,7 +6,7 @@ import subprocess
 import time
 import unittest
 
-from harness import KEEPER, LONGEST_RECORD, RECORDS, HostTest, read_by_now, run_record, stream_of
+from harness import KEEPER, LONGEST_RECORD, RECORDS, HostTest, digest, read_by_now, run_record, stream_of
 
 LONG = 1.2  # seconds after which something is to be shown
 
@@ -78,10 +78,41 @@ class Shown(HostTest):
             self.assertEqual(status, 0)
         self.assertEqual(said[2:], [(b"", 0)] * 4)
 
+    def test_digests(self):
+        """Bytes, and which file of how many, where there are some; how many a list names, nobody knows."""
+        line = f"{digest(bytes(300000)).hex()}  -\n"
+        first, listed = self.file("first", RECORDS[3]), self.file("list", line.encode())
+        runs = [Run(self, "digest"), Run(self, "digest", first, "-", output=True), Run(self, "digest", "--check", listed),
+                Run(self, "digest", "--quiet"), Run(self, "digest", "--check", "--quiet", listed), Run(self, "digest", terminal=False)]
+        for run in runs:
+            run.give(bytes(200000))
+        time.sleep(LONG)
+        for run in runs:
+            run.give(bytes(100000))
+        said = [run.end() for run in runs]
+        self.assertRegex(said[0][0], rb"^(keeper: 0\.[23] MB, 0\.[0-3] MB a second   \r)+\r\n$")
+        second = rb"(keeper: file 2 of 2, 0\.[23] MB, 0\.[0-3] MB a second   \r)+\r\n"
+        self.assertRegex(said[1][0], rb"^[^\r]*first\r\n" + second + line.encode()[:-1] + rb"\r\n$")
+        self.assertRegex(said[2][0], rb"^(keeper: file 1, 0\.[23] MB, 0\.[0-3] MB a second   \r)+\r\n$")
+        self.assertEqual(said[3:], [(b"", 0)] * 3)
+        self.assertEqual([status for _, status in said[:3]], [0] * 3)
+
+    def test_length_of_a_file(self):
+        """A file that has a length is shown with it: one that comes up late, behind a pipe that has nothing."""
+        late, long = self.folder / "late", self.file("long", bytes(10**6))
+        os.mkfifo(late)
+        run = Run(self, "digest", late, long)
+        with read_by_now(late):
+            time.sleep(LONG)
+        said, status = run.end()
+        self.assertRegex(said, rb"^keeper: file 2 of 2, 0\.1 of 1\.0 MB, 0\.[01] MB a second   \r\r\n$")
+        self.assertEqual(status, 0)
+
     def test_who_takes_it(self):
         self.done("append", self.log, "--quiet", given=RECORDS[0])
         self.done("verify", self.log, "--quiet")
         self.done("root", self.log, "--quiet")
+        self.done("digest", self.log, "--quiet")
         self.failed("cannot read", "append", self.log, "--quiet", self.folder / "missing")
 
 

@@ -8,6 +8,7 @@ import unittest
 from pathlib import Path
 
 from harness import CHECKED, RECORDS, TOP, HostTest, letter_of, said_of
+from test_digest import LONG, PUBLISHED, counting_bytes
 
 PLAIN = {name: os.environ[name] for name in ("PATH", "HOME", "LANG") if name in os.environ}
 
@@ -135,6 +136,21 @@ class Scripts(HostTest):
                 self.assertFalse(log.exists())
             else:
                 self.holds(RECORDS[3:4], log)
+
+    def test_digest(self):
+        """The digest of standard input by its own program: any length, and no digest where it cannot be read or written."""
+        digest = TOP / "bin" / "digest"
+        subprocess.run([digest], check=True, stdin=subprocess.DEVNULL, capture_output=True)  # builds it
+        for length, wanted, *_ in (*((int(length), wanted) for length, wanted, _ in PUBLISHED[::5]), *LONG):
+            ran = subprocess.run([digest], input=counting_bytes(length), capture_output=True, check=False)
+            self.assertEqual((ran.returncode, ran.stdout, ran.stderr), (0, f"{wanted}\n".encode(), b""), length)
+        with open(os.devnull, "wb") as unreadable:
+            ran = subprocess.run([digest], stdin=unreadable, capture_output=True, check=False)
+        self.assertEqual((ran.returncode, ran.stdout), (1, b""))
+        self.assertIn(b"cannot be read", ran.stderr)
+        with open("/dev/full", "wb") as full:
+            ran = subprocess.run([digest], stdin=subprocess.DEVNULL, stdout=full, stderr=subprocess.PIPE, check=False)
+        self.assertEqual((ran.returncode, ran.stderr), (2, b"digest: the digest could not be written\n"))
 
     def test_words(self):
         for name, word in (("panel", b"verdict"), ("keeper", b"keeper append"), ("digest", b"BLAKE3"), ("match", b"match")):

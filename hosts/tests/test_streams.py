@@ -82,6 +82,8 @@ class Unwritten(HostTest):
             self.full(*words)
         for words in (("root", self.log), ("root",), ("root", "--bytes"), ("root", self.log, "--json")):
             self.full(*words, "--records", "--stream", given=stream_of(RECORDS[:3]))
+        for words in (("digest", self.log, self.log), ("digest",), ("digest", "--json")):
+            self.full(*words, given=RECORDS[1])
         self.full("letter", self.log, 1, given=RECORDS[1])
         self.full("check", size, top.hex(), given=letter_of(RECORDS[:3], 1))
         self.full("check", size, top.hex(), "--json", given=letter_of(RECORDS[:3], 1))

@@ -13,7 +13,9 @@ class WrongUse(HostTest):
                       ("check", 1), ("check", 1, "00", "--record"), ("check", 1, "00", "letter", "--page", "x"), ("find", self.log), ("letter", self.log),
                       ("repair", self.log), ("verify", self.log, "--size", "1"), ("verify", self.log, "--stream"), ("root", "--records"),
                       ("root", self.log, "--stream"), ("root", self.log, "file", "--records"), ("--stream",), ("append", self.log, "--quiet=1"),
-                      ("info", self.log, "--quiet"), ("letter", self.log, "0", "--quiet"), ("repair", self.log, "copy", "--quiet")):
+                      ("info", self.log, "--quiet"), ("letter", self.log, "0", "--quiet"), ("repair", self.log, "copy", "--quiet"),
+                      ("digest", "--records", self.log), ("digest", self.log, "--check=1"), ("digest", "-", "-"), ("digest", self.log, "-c"),
+                      ("verify", self.log, "--check")):
             ran = keeper(*words)
             self.assertEqual(ran.returncode, 2, words)
             self.assertIn(b"wrong use", ran.stderr)
@@ -32,7 +34,7 @@ class WrongUse(HostTest):
     def test_files(self):
         for words in (("root", self.log), ("letter", self.log, 0), ("append", self.folder / "no" / "log"), ("root", self.folder), ("info", self.log),
                       ("root", self.log, "--records"), ("root", self.log, "--records", self.log), ("root", "--records", self.log),
-                      ("verify", self.log), ("repair", self.log, self.folder / "copy")):
+                      ("verify", self.log), ("repair", self.log, self.folder / "copy"), ("digest", self.log), ("digest", "--check", self.log)):
             self.failed("keeper: ", *words)
         self.assertEqual(list(self.folder.iterdir()), [])
 

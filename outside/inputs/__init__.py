@@ -1,8 +1,9 @@
 """The inputs that outside/outside.py puts before the calls for C: true ones, damaged ones, random ones, each case from its number alone.
 
 The fixed cases are the same for every seed: numbers beside the edges, letters and stored nodes with every byte damaged, logs of every length, batches
-refused at every record, stored nodes of every form, modes of every kind. None stands twice, and none in vectors/, which have each refusal alone and
-every two at once. The random ones take a true input and change some of its parts, or none. What works out a digest is tried plain and under a key.
+refused at every record, digests in parts at every edge and on states of any bytes, stored nodes of every form, modes of every kind. None stands
+twice, and none in vectors/, which have each refusal alone and every two at once. The random ones take a true input and change some of its parts, or
+none. What works out a digest is tried plain and under a key.
 """
 import itertools
 
@@ -10,13 +11,15 @@ from inputs.batches import fixed_batches
 from inputs.chance import Chance, random_case, random_keyed_cases
 from inputs.fixed import fixed_digests, fixed_forms, fixed_letters, fixed_logs, fixed_nodes, fixed_numbers, fixed_roots
 from inputs.modes import fixed_any_modes, fixed_keys, fixed_modes, fixed_orders
+from inputs.parts import fixed_parts
 from inputs.world import LEAGUES, World
 from vector_cases import cases_in_vectors
 
 
 def fixed_in(world):
     """The fixed cases that work out a digest, in the world's mode."""
-    return itertools.chain(fixed_digests(world), fixed_letters(world), fixed_logs(world), fixed_roots(world), fixed_batches(world))
+    return itertools.chain(fixed_digests(world), fixed_parts(world), fixed_letters(world), fixed_logs(world), fixed_roots(world),
+                           fixed_batches(world))
 
 
 def fixed_cases(plain, keyed):

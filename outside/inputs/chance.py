@@ -3,10 +3,12 @@ import random
 from collections import namedtuple
 
 from calls import PLAIN, Case, flipped, u32
-from inputs.world import EDGES, LEAGUES, LEAVES, LENGTHS
+from inputs.parts import STATE, any_state
+from inputs.world import EDGES, LEAGUES, LEAVES, LENGTHS, packed
 from rules import letters, shape, stored
 from rules.finder import PAIR
 from rules.log import LONGEST_RECORD, NODE
+from rules.parts import MOST_BYTES
 from rules.shape import MOST_LEAVES, nodes_of
 
 
@@ -121,6 +123,54 @@ def random_digest(chance, world, given):
     return Case("digest", (), [world.mode, given.record, chance.out(NODE)])
 
 
+def any_length(chance, most):
+    """A length: small, around a block or a chunk, or any."""
+    around = chance.choice((64, 1024, 1024, 4096)) * chance.randrange(9) + chance.randrange(-2, 3)
+    return min(max(chance.choice((chance.randrange(70), around, around, chance.randrange(most + 1))), 0), most)
+
+
+def any_counts(chance, state):
+    """A state with one of its numbers replaced."""
+    name = chance.choice(("total", "held", "stacked", "keyed"))
+    value = getattr(state, name)
+    other = chance.choice((value + 1, max(value - 1, 0), value ^ 1 << chance.randrange(32), chance.number()))
+    return state._replace(**{name: other % 2 ** (64 if name in ("total", "held") else 32)})
+
+
+def any_parts(chance, world):
+    """A state as C has it, and how many bytes of the world's input it has taken: a true one, one of any bytes and true counts, or a damaged one."""
+    length = any_length(chance, LONGEST_RECORD)
+    total = chance.choice((length, chance.number() % (MOST_BYTES + 1), MOST_BYTES - chance.randrange(2000), MOST_BYTES + chance.randrange(3)))
+    made = chance.often(world.state(length), any_state(chance, total, chance.choice((world.mode[0], 0, 1, chance.getrandbits(32)))))
+    state = packed(chance.often(made, made, any_counts(chance, made)))
+    return chance.often(state, state, flipped(state, chance.randrange(STATE), chance.randrange(1, 256)), chance.randbytes(STATE)), length
+
+
+def random_parts_begin(chance, world, given):
+    return Case("parts_begin", (), [world.mode, chance.randbytes(STATE)])
+
+
+def random_parts_add(chance, world, given):
+    state, taken = any_parts(chance, world)
+    length = any_length(chance, 5000)
+    part = chance.often(world.longer[taken:taken + length], world.longer[taken:taken + length], b"", chance.randbytes(length % 300))
+    return Case("parts_add", (), [part, state])
+
+
+def random_parts_end(chance, world, given):
+    return Case("parts_end", (), [any_parts(chance, world)[0], chance.out(NODE)])
+
+
+def random_parts_cut(chance, world, given):
+    """An input in parts of any lengths, many of them empty."""
+    length, lengths = any_length(chance, LONGEST_RECORD + 1), []
+    most = chance.choice((3, 70, 1100, 5000))
+    while sum(lengths) < length and len(lengths) < 200:
+        lengths.append(min(chance.often(chance.randrange(most), 0), length - sum(lengths)))
+    shown = b"".join(map(u32, [*lengths, length - sum(lengths)]))
+    return Case("parts_cut", (), [world.mode, world.longer[:length], shown, chance.randbytes(STATE), chance.randbytes(NODE + chance.randrange(3))])
+
+
 def random_number(chance, world, given):
     call = chance.choice(("size", "leaf_position", "leaf_count"))
     return Case(call, (chance.choice((given.size, given.leaves, chance.number(), chance.choice(EDGES))),), [chance.variable()])
@@ -208,11 +258,14 @@ def random_read_node(chance, world, given):
 
 # Each kind of random case, and how often it is taken.
 RANDOM = {
-    random_digest: 1, random_number: 2, random_append: 3, random_append_many: 3, random_root: 2, random_letter_write: 3, random_letter_check: 3,
-    random_large_check: 1, random_find: 4, random_store_leaf: 1, random_store_inner: 1, random_read_node: 1,
+    random_digest: 1, random_parts_begin: 1, random_parts_add: 4, random_parts_end: 3, random_parts_cut: 3, random_number: 2, random_append: 3,
+    random_append_many: 3, random_root: 2, random_letter_write: 3, random_letter_check: 3, random_large_check: 1, random_find: 4,
+    random_store_leaf: 1, random_store_inner: 1, random_read_node: 1,
 }
 # Those of calls that work out no digest, and have no mode.
 NO_MODE = (random_number, random_store_inner, random_read_node)
+# Those of calls that have it in a state.
+IN_STATE = (random_parts_add, random_parts_end)
 
 
 def any_kind(chance):
@@ -238,4 +291,4 @@ def random_keyed_cases(chance, own, world):
     kind = any_kind(chance)
     if kind not in NO_MODE:
         case = kind(chance, world, any_given(chance, world))
-        yield case._replace(parts=[any_mode(own, world.mode), *case.parts[1:]])
+        yield case if kind in IN_STATE else case._replace(parts=[any_mode(own, world.mode), *case.parts[1:]])

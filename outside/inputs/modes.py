@@ -2,7 +2,7 @@
 import itertools
 import random
 
-from calls import (BEFORE, append_case, check_case, digest_case, find_case, flipped, leaf_case, many_case, mode_bytes, mode_keyed_case,
+from calls import (BEFORE, append_case, check_case, cut_case, digest_case, find_case, flipped, leaf_case, many_case, mode_bytes, mode_keyed_case,
                    mode_plain_case, root_case, write_case)
 from expected.given import KEYS, LEAGUES
 from portable.orders import order_cases
@@ -37,6 +37,7 @@ def true_cases(world, mode):
     """Each call that works out a digest, with the world's own inputs, in a mode that may be another."""
     size, nodes, record, letter = nodes_of(LEAVES), world.nodes(LEAVES), world.records[INDEX], world.letter(LEAVES, INDEX)
     yield digest_case(record, NODE, mode)
+    yield cut_case(world.longer[:1100], [1000, 100], mode)
     yield append_case(size, world.records[LEAVES], nodes.ljust(NODE * nodes_of(LEAVES + 1), b"\x3c"), mode)
     yield many_case(size, world.records[LEAVES] + record, [len(world.records[LEAVES]), len(record)],
                     nodes.ljust(NODE * nodes_of(LEAVES + 2), b"\x3c"), mode)

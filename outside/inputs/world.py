@@ -3,10 +3,10 @@ import functools
 import random
 import struct
 
-from calls import PLAIN, mode_bytes
+from calls import PLAIN, mode_bytes, state_bytes
 from expected.given import KEYS
 from grown import grown
-from rules import blake3, letters, log
+from rules import blake3, letters, log, parts
 from rules.log import LONGEST_RECORD, NODE
 from rules.shape import nodes_of
 
@@ -19,10 +19,26 @@ LEAGUES = tuple(mode_bytes(1, key) for key in KEYS)
 worked_out = {}
 
 
+def mode_in(mode):
+    """A mode, which is given as C has it."""
+    return blake3.Mode(*struct.unpack("<I32s", mode))
+
+
+def packed(state):
+    """A state as C has it."""
+    return state_bytes(*state[:4], *map(blake3.bytes_of, state[4:7]), state.block)
+
+
+def unpacked(data):
+    """A state, which is given as C has it."""
+    *numbers, key, chain, stack, block = struct.unpack("<QQII32s32s960s64s", data)
+    return parts.State(*numbers, *map(blake3.words_of, (key, chain, stack)), block)
+
+
 @functools.lru_cache(maxsize=None)
 def digest_in(mode):
     """The digest in a mode, which is given as C has it. Each is worked out once, for all modes that begin alike."""
-    by_rules = blake3.Mode(*struct.unpack("<I32s", mode))
+    by_rules = mode_in(mode)
     return worked_out.setdefault((by_rules.starting, by_rules.flag), functools.lru_cache(maxsize=None)(by_rules))
 
 
@@ -36,6 +52,12 @@ class World:
         self.records[77] = chance.randbytes(LONGEST_RECORD)
         self.longer = chance.randbytes(LONGEST_RECORD + 1)
         *_, (_, self.all_nodes) = grown(self.records, self.digest)
+
+    @functools.lru_cache(maxsize=None)
+    def state(self, length):
+        """The state that has taken the first so many bytes of the longer record, in parts of at most a thousand."""
+        before = max(length - 1, 0) // 1000 * 1000
+        return parts.add(self.state(before) if before else parts.begin(mode_in(self.mode)), self.longer[before:length]).state
 
     def nodes(self, leaves):
         """The nodes of the log of the first so many records."""

@@ -10,6 +10,7 @@ from portable.letters import checking_cases, writing_cases
 from portable.logs import log_cases
 from portable.orders import order_cases
 from portable.panel import keyed_panel_cases, panel_cases
+from portable.parts import parts_cases
 from portable.shape import shape_cases
 from portable.stored import stored_cases
 
@@ -19,6 +20,7 @@ FILES = {
     "orders.json": ("every two refusals of a call at once", "3", order_cases),
     "digests.json": ("digests, plain and keyed, beside BLAKE3's published ones in blake3-published.txt", "5", digest_cases),
     "keyed.json": ("keys, modes, and what is worked out under a key", "5.5", keyed_cases),
+    "parts.json": ("digests in parts: inputs cut in many ways; states begun, added to and ended", "5.7", parts_cases),
     "shape.json": ("sizes, positions of leaves and leaf counts", "6", shape_cases),
     "logs.json": ("whole logs, appends and roots", "7", log_cases),
     "batches.json": ("many records in one append", "7.7", batch_cases),

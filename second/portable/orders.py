@@ -7,10 +7,12 @@ from portable.form import counted, logged
 from portable.finder import find_case
 from portable.letters import check_case, flipped, write_case
 from portable.logs import append_case, root_case, small_log
+from portable.parts import add_case, end_case, state_of
 from rules.blake3 import PLAIN
 from rules.finder import PAIR
 from rules.letters import LETTER_HEAD, letter_of
 from rules.log import LONGEST_RECORD, NODE, root
+from rules.parts import MOST_BYTES, held_of, stacked_of
 from rules.shape import MOST_LEAVES, nodes_of
 
 LEAVES, INDEX = 3, 0
@@ -18,6 +20,8 @@ LEAVES, INDEX = 3, 0
 # own, for the buffer that those before them would fill has 2^38 bytes.
 FROM_7 = ("7 (under 20 bytes)", "8", "5", "3 (stated length)", "7 (exact length)", "9")
 ORDERS = {
+    "parts_add": ("17 (total)", "17 (held)", "17 (stacked)", "17 (part)"),
+    "parts_end": ("17 (total)", "17 (held)", "17 (stacked)"),
     "append": ("1", "2", "3", "4"),
     "append_many": ("1", "16", "2", "3 (first)", "4 (first)", "3 (middle)", "4 (middle)", "3 (last)", "4 (last)"),
     "root": ("1", "10", "4"),
@@ -50,6 +54,22 @@ def with_records(name, first, middle, last, spare, **given):
     return many_case(name, joined=b"".join(records) + spare, lengths=[len(record) for record in records], **given)
 
 
+def with_counts(make):
+    """A case of a call on a state that has these counts."""
+    def made(name, total, held, stacked, mode, **given):
+        return make(name, state_of(total, held, stacked, mode), **given)
+    return made
+
+
+def parts_calls():
+    """The calls on a state, five bytes before the limit; the total that is too high has the same counts beside it."""
+    total, part = MOST_BYTES - 5, counted(9, 6)
+    true = {"total": total, "held": held_of(total), "stacked": stacked_of(total)}
+    off = {"17 (total)": {"total": 2 * MOST_BYTES - 1029}, "17 (held)": {"held": true["held"] - 1}, "17 (stacked)": {"stacked": true["stacked"] - 1}}
+    yield "parts_add", with_counts(add_case), {**true, "part": part[1:]}, {**off, "17 (part)": {"part": part}}
+    yield "parts_end", with_counts(end_case), true, off
+
+
 def with_letter(make, parts):
     """A case of a call that is given a letter, from the letter's parts and the call's own."""
     def made(name, **given):
@@ -59,6 +79,7 @@ def with_letter(make, parts):
 
 def calls(mode):
     """Each call: what makes a case of it, inputs that are done, and for each entry of its order a change to which it applies."""
+    yield from parts_calls()
     size, nodes = small_log(LEAVES, mode)
     record, longer, short = logged(INDEX), counted(8, LONGEST_RECORD + 1), {"nodes": nodes[:-1]}
     letter, top, no_size = letter_of(size, INDEX, record, nodes, mode), root(size, nodes, mode).root, {"size": 2}
