@@ -33,7 +33,7 @@ module _ (mode : List ℕ) where
   flag = flagIn (numberIn mode)
 
   -- a state that keeps the mode, and what is stored of the run after xs, hold xs
-  stored-holds : (keyed : ℕ) (key xs : List ℕ) → startIn keyed key ≡ words → flagIn keyed ≡ flag → length xs ≤ 2 ^ 40
+  pub stored-holds : (keyed : ℕ) (key xs : List ℕ) → startIn keyed key ≡ words → flagIn keyed ≡ flag → length xs ≤ 2 ^ 40
       → Holds mode (stored keyed key (runAfter words flag xs)) xs
   stored-holds keyed key xs es ef l =
       record { start = es; flag = ef; counted = stored-counted words flag keyed key xs l; run = stored-run words flag keyed key xs }
@@ -64,17 +64,21 @@ module _ (mode : List ℕ) where
     unfolding runAfter
     total-held = ap (λ (r : Run). r .total) (h .run)
 
+    -- what a part of one byte or more comes to, as a run
+    pub taken-held : (part : List ℕ) → length xs + length part ≤ 2 ^ 40
+        → taken (startOf s) (flagOf s) (runOf s) part ≡ runAfter words flag (xs ++ part)
+    taken-held part l =
+        ap₂ (λ (w : List ℕ) (f : ℕ). taken w f (runOf s) part) (h .start) (h .flag) ∙ ap (λ (r : Run). taken words flag r part) (h .run)
+        ∙ taken-after words flag xs part l
+
     after-holds : (part : List ℕ) → length xs + length part ≤ 2 ^ 40 → Holds mode (after s part) (xs ++ part)
     unfolding after
     after-holds [] l = subst⁻¹ (Holds mode s) (append-nil xs) h
     after-holds (b ∷ bs) l =
-        let e : taken (startOf s) (flagOf s) (runOf s) (b ∷ bs) ≡ runAfter words flag (xs ++ (b ∷ bs)) =
-        ap₂ (λ (w : List ℕ) (f : ℕ). taken w f (runOf s) (b ∷ bs)) (h .start) (h .flag) ∙ ap (λ (r : Run). taken words flag r (b ∷ bs)) (h .run)
-        ∙ taken-after words flag xs (b ∷ bs) l in
-        subst⁻¹ (λ (r : Run). Holds mode (stored (s .keyed) (s .key) r) (xs ++ (b ∷ bs))) e
+        subst⁻¹ (λ (r : Run). Holds mode (stored (s .keyed) (s .key) r) (xs ++ (b ∷ bs))) (taken-held (b ∷ bs) l)
         (stored-holds (s .keyed) (s .key) (xs ++ (b ∷ bs)) (h .start) (h .flag) (omega (arith, length-append xs (b ∷ bs))))
 
-    add-is : (part : List ℕ) → length xs + length part ≤ 2 ^ 40 → record { number = 0; state = after s part } ≡ addOutcome s part
+    pub add-is : (part : List ℕ) → length xs + length part ≤ 2 ^ 40 → record { number = 0; state = after s part } ≡ addOutcome s part
     add-is part l = add-done s part (h .counted) (omega (arith, total-held)) refl
 
     pub add-holds : (part : List ℕ) → length xs + length part ≤ 2 ^ 40
