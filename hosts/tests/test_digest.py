@@ -5,6 +5,7 @@ says now.
 """
 import json
 import os
+import select
 import shutil
 import signal
 import subprocess
@@ -188,7 +189,7 @@ class Unread(DigestTest):
                 self.skipTest("no file can be so long here")
         self.given("short", b"x")
         longer = "long refused, number 17: the input is longer than 1,099,511,627,776 bytes"
-        self.assertEqual(self.ran(1, longer, "digest", "long", "short", cwd=self.files), line_of("short", b"x"))
+        self.assertEqual(self.ran(1, longer, "digest", "long", "short", cwd=self.files, timeout=60), line_of("short", b"x"))
         self.ran(2, "long refused, number 17", "digest", "long", "missing", cwd=self.files)
         with open(self.files / "long", "rb") as file:
             ran = subprocess.run([KEEPER, "digest"], stdin=file, capture_output=True, check=False)
@@ -230,6 +231,8 @@ class Unread(DigestTest):
         """Asked to stop before the input's end: words, the lines that were there, and no digest of what came."""
         words = [KEEPER, "digest", self.given("file", b"x"), "-"]
         with subprocess.Popen(words, stdin=subprocess.PIPE, stdout=subprocess.PIPE, stderr=subprocess.PIPE, cwd=self.files) as reader:
+            self.addCleanup(reader.kill)
+            self.assertTrue(select.select([reader.stdout], [], [], 20)[0], "the first line waits for the second")
             self.assertEqual(reader.stdout.readline(), line_of("file", b"x"))
             reader.stdin.write(bytes(70000))
             reader.stdin.flush()
