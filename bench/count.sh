@@ -33,7 +33,7 @@ find_compilers() {
     headers=$($gcc -E -v -x c /dev/null 2>&1 | sed -n '/^#include </,/^End of search/s,^ /,-isystem /,p' | tr '\n' ' ')
 }
 
-# theirs NAME COMPILER..: BLAKE3's C by one compiler, in one object whose only name is NAME_digest
+# theirs NAME COMPILER..: BLAKE3's C by one compiler, in one object whose only names are those that begin with NAME_
 theirs() {
     name=$1
     shift
@@ -41,12 +41,12 @@ theirs() {
     for source in "$blake3/blake3.c" "$blake3/blake3_dispatch.c" "$blake3/blake3_portable.c" ${more_sources-} "$here/theirs.c"; do
         object=$work/$name-$(basename "$source" .c).o
         # shellcheck disable=SC2086
-        "$@" $flags $keyed -DNAME="${name}_digest" -I"$work/include" -I"$blake3" -I"$here" -c "$source" -o "$object"
+        "$@" $flags $keyed -DSIDE="$name" -I"$work/include" -I"$blake3" -I"$here" -c "$source" -o "$object"
         objects="$objects $object"
     done
     # shellcheck disable=SC2086
     "${prefix}ld" -r -o "$work/$name-all.o" $objects
-    "${prefix}objcopy" --keep-global-symbol="${name}_digest" "$work/$name-all.o" "$work/$name.o"
+    "${prefix}objcopy" --wildcard --keep-global-symbol="${name}_*" "$work/$name-all.o" "$work/$name.o"
 }
 
 # count_by_valgrind PROGRAM: the calls in their order go to names, a line each, and what each took to counts
@@ -62,19 +62,27 @@ count_by_valgrind() {
     how="counted by $(valgrind --version)"
 }
 
-# count_by_emulator PROGRAM: the same by the kit's emulator; what lies between the first instruction of mark_begin and that of mark_end
+# count_by_emulator PROGRAM: the same by the kit's emulator; what lies between the first instruction of mark_begin and that of mark_end. It names each
+# block of instructions as it comes to it, and the first time tells what it makes of each instruction, below a line " ---- ADDRESS"; of a block that
+# was too long for it, it tells so and begins again with a shorter one. The program gets the same name and no environment wherever it runs: both lie on
+# its stack, and what memcpy takes depends on where its bytes lie.
 count_by_emulator() {
     [ -x "$tools/bin/qemu-x86_64" ] || die "the kit has no emulator for $machine"
     : >"$work/times"
     {
         status=0
-        "$tools/bin/qemu-x86_64" -one-insn-per-tb -d nochain,exec "$1" count 2>&1 >"$work/names" || status=$?
+        (cd "$work" && env -i "$tools/bin/qemu-x86_64" -d nochain,exec,op "./${1##*/}" count) 2>&1 >"$work/names" || status=$?
         echo "$status" >"$work/status"
     } | LC_ALL=C awk '
+        /^ ---- / { fresh++; next }
+        $1 == "OP:" { fresh = 0; next }
+        /^( |$|Restarting code generation)/ { next }
         $1 != "Trace" { print >"/dev/stderr"; next }
+        fresh { size[$4] = fresh; fresh = 0 }
+        !($4 in size) { print "bench: a block of unknown size: " $0 >"/dev/stderr"; exit 1 }
         $NF == "mark_begin" { if (last != $NF) n = 0 }
         $NF == "mark_end" { if (last != $NF) print n }
-        { n++; last = $NF }' >"$work/counts"
+        { n += size[$4]; last = $NF }' >"$work/counts" || exit 1
     [ "$(cat "$work/status")" = 0 ] || exit 1
     how="counted by the kit's emulator"
 }
