@@ -2,7 +2,7 @@
 use mathlib.Core.Path.{_≡_, refl, sym, ap, _∙_}
 use mathlib.Core.Logic.{by-cases}
 use mathlib.Core.List.{List, [], _∷_}
-use Prim.Native.Nat.{ℕ, suc, _+_, _*_, _^_, _≤_}
+use Prim.Native.Nat.{ℕ, suc, _*_, _^_, _≤_}
 use native.Mathlib.Decide.{ℕ-discrete}
 use native.Mathlib.Omega.{arith}
 use borrow.Author.Tests.{eq-eqb, ne-eqb, lt-ltb, le-ltb}
@@ -24,13 +24,14 @@ use Rattle.batch.specs.Batch.{next, met}
 use Rattle.batch.proofs.Next.{next-more, next-long}
 use Rattle.batch.proofs.OneByOne.{met-here, met-later}
 
--- what an append to n leaves tests, by numbers alone
+-- one leaf too many: n is 2 ^ 32 already, or n + 1 is above it
 full-alike : (n : ℕ) → n ≤ 2 ^ 32 → eqb n (2 ^ 32) ≡ ltb (2 ^ 32) (suc n)
 full-alike n h =
     by-cases (ℕ-discrete n (2 ^ 32)) (λ e. eq-eqb n (2 ^ 32) e ∙ sym (lt-ltb (2 ^ 32) (suc n) (omega arith)))
     (λ e. ne-eqb n (2 ^ 32) e ∙ sym (le-ltb (2 ^ 32) (suc n) (omega arith)))
 
 module _ (digest : List ℕ → List ℕ) where
+  -- what an append to n leaves tests, by numbers alone
   number-by : (s : State) (n : ℕ) (r : List ℕ) → Counts (s .size) n
       → next digest s r .number ≡ firstNumber (oneOrder (length (s .bytes)) (suc n) (length r))
   unfolding appendOrder firstNumber

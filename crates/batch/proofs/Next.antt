@@ -1,30 +1,32 @@
--- One append of a run, over any digest function: its count, and with digests of 32 bytes what it leaves where it is done, and where it is refused.
+-- One append of a run, over any digest function: its count, and with digests of 32 bytes what it writes; the buffer stays as long as it was.
 use mathlib.Core.Path.{_≡_, sym, ap, subst, _∙_}
-use mathlib.Core.Logic.{by-cases, _≢_}
+use mathlib.Core.Logic.{by-cases}
 use mathlib.Core.List.{List, map}
 use Prim.Native.Nat.{ℕ, suc, _+_, _*_, _≤_}
 use native.Mathlib.Decide.{ℕ-discrete}
 use native.Mathlib.Omega.{arith}
 use lib.ListN.{length, length-map}
-use Rattle.wire.specs.Slices.{splice, joined}
+use Rattle.wire.specs.Slices.{joined}
 use Rattle.wire.proofs.Each.{each-map}
 use Rattle.wire.proofs.Joined.{joined-length}
 use Rattle.wire.proofs.Splices.{splice-length}
 use Rattle.shape.specs.Sizes.{sizeOf, leaves}
 use Rattle.shape.proofs.Sizes.{size-suc}
 use Rattle.shape.proofs.Counting.{Counts, counts-known, counts-size}
-use Rattle.log.specs.Outcome.{AppendOutcome, appendRefused, appendOrder, appendDone}
+use Rattle.log.specs.Outcome.{AppendOutcome, appendOrder, appendDone}
 use Rattle.log.specs.Appends.{State}
 use Rattle.log.specs.Hashed.{appendHashed}
 use Rattle.log.proofs.Told.{told-refused, told-done}
 use Rattle.log.proofs.Hashed.{append-counts, append-writes}
 use Rattle.batch.specs.Batch.{next}
 
-module _ (digest : List ℕ → List ℕ) (s : State) (r : List ℕ) where
-  -- refused: all as it was
-  pub next-left : next digest s r .number ≢ 0 → next digest s r ≡ appendRefused (s .size) (s .bytes) (next digest s r .number)
-  next-left z = told-refused digest (s .size) r (s .bytes) z
+-- the digests of k strings
+pub hashed-length : (digest : List ℕ → List ℕ) → ((x : List ℕ) → length (digest x) ≡ 32) → (hs : List (List ℕ)) {k : ℕ} → k ≡ length hs
+    → length (joined (map digest hs)) ≡ 32 * k
+hashed-length digest digest-32 hs e =
+    joined-length (map digest hs) (each-map 32 digest digest-32 hs) ∙ ap (λ (x : ℕ). 32 * x) (length-map hs digest ∙ sym e)
 
+module _ (digest : List ℕ → List ℕ) (s : State) (r : List ℕ) where
   -- done: the size had a leaf count, and now there is one leaf more, with room
   pub record More : Type 0 where
     pub known : Counts (s .size) (leaves (s .size))
@@ -51,7 +53,7 @@ module _ (digest : List ℕ → List ℕ) (s : State) (r : List ℕ) where
   next-counts =
       by-cases (ℕ-discrete (next digest s r .number) 0) (λ z. next-more z .hashes)
       (λ z.
-      let e = next-left z in
+      let e = told-refused digest (s .size) r (s .bytes) z in
       omega (arith, ap (λ (o : AppendOutcome). o .size) e, ap (λ (o : AppendOutcome). o .hashes) e))
 
   -- what it writes
@@ -60,13 +62,7 @@ module _ (digest : List ℕ → List ℕ) (s : State) (r : List ℕ) where
 
   module _ (digest-32 : (x : List ℕ) → length (digest x) ≡ 32) where
     pub new-long : length new ≡ 32 * next digest s r .hashes
-    new-long =
-        let hs = appendHashed digest (s .size) r (s .bytes) in
-        joined-length (map digest hs) (each-map 32 digest digest-32 hs)
-        ∙ ap (λ (x : ℕ). 32 * x) (length-map hs digest ∙ sym (append-counts digest (s .size) r (s .bytes)))
-
-    pub next-bytes : next digest s r .number ≡ 0 → next digest s r .bytes ≡ splice (32 * s .size) new (s .bytes)
-    next-bytes z = append-writes digest (s .size) r (s .bytes) z
+    new-long = hashed-length digest digest-32 (appendHashed digest (s .size) r (s .bytes)) (append-counts digest (s .size) r (s .bytes))
 
     -- the buffer stays as long as it was
     pub next-long : length (next digest s r .bytes) ≡ length (s .bytes)
@@ -74,5 +70,6 @@ module _ (digest : List ℕ → List ℕ) (s : State) (r : List ℕ) where
         by-cases (ℕ-discrete (next digest s r .number) 0)
         (λ z.
         let m = next-more z in
-        ap length (next-bytes z) ∙ splice-length (32 * s .size) new (s .bytes) (omega (arith, new-long, m .room, m .hashes)))
-        (λ z. ap (λ (o : AppendOutcome). length (o .bytes)) (next-left z))
+        ap length (append-writes digest (s .size) r (s .bytes) z)
+        ∙ splice-length (32 * s .size) new (s .bytes) (omega (arith, new-long, m .room, m .hashes)))
+        (λ z. ap (λ (o : AppendOutcome). length (o .bytes)) (told-refused digest (s .size) r (s .bytes) z))

@@ -9,7 +9,7 @@ use borrow.Author.Tests.{eq-eqb, ne-eqb}
 use lib.ListN.{length}
 use Rattle.records.specs.Records.{cut}
 use Rattle.log.specs.Outcome.{AppendOutcome}
-use Rattle.log.specs.Appends.{State, step, run, empty, Sound}
+use Rattle.log.specs.Appends.{State, run, empty, Sound}
 use Rattle.log.proofs.Appends.{run-sound}
 use Rattle.batch.specs.Batch.{begun, batchDone, batchOutcome}
 use Rattle.batch_laws.specs.Calls.{Call, one, many, stepMany, stepCall, runCalls}

@@ -20,7 +20,6 @@ use Rattle.log.specs.Appends.{State, step, run}
 use Rattle.log.proofs.Told.{told-refused}
 use Rattle.batch.specs.Batch.{begun, next, met, hashTotal, batchDone, batchOutcome}
 use Rattle.batch.proofs.OneByOne.{met-here, met-later, run-counts}
-use Rattle.batch_laws.proofs.Runs.{met-none}
 use Rattle.batch_laws.proofs.Written.{news, run-writes}
 use Rattle.batch.proofs.Outcome.{batch-done}
 use Rattle.batch_laws.proofs.Cases.{Cases, no-count, no-sum, one-refused, all-done, batch-cases}

@@ -13,14 +13,16 @@ use Rattle.wire.proofs.Splices.{splice-through, part-splice}
 use Rattle.shape.specs.Sizes.{countAnswer}
 use Rattle.records.specs.Records.{total, cut}
 use Rattle.log.specs.Outcome.{AppendOutcome, appendRefused, appendOutcome}
-use Rattle.log.specs.Appends.{State, step, run}
+use Rattle.log.specs.Appends.{State, step}
 use Rattle.log.specs.Hashed.{runHashed}
+use Rattle.log.proofs.Told.{told-refused}
+use Rattle.log.proofs.Hashed.{append-writes}
 use Rattle.log.proofs.Local.{Alike, alike-refused, append-local}
-use Rattle.batch.specs.Batch.{begun, next, met, hashTotal, batchOrder, batchDone, batchOutcome}
-use Rattle.batch.proofs.Next.{next-left, next-more, new, new-long, next-bytes, next-long}
+use Rattle.batch.specs.Batch.{begun, next, met, batchOrder, batchDone, batchOutcome}
+use Rattle.batch.proofs.Next.{hashed-length, next-more, new, new-long, next-long}
 use Rattle.batch.proofs.OneByOne.{run-counts}
-use Rattle.batch_laws.proofs.Runs.{met-none, run-alike, met-alike, total-alike}
-use Rattle.batch_laws.proofs.Written.{news, news-long, news-next}
+use Rattle.batch_laws.proofs.Runs.{met-none, total-hashed, run-alike, met-alike, total-alike}
+use Rattle.batch_laws.proofs.Written.{news, news-next}
 use Rattle.batch_laws.proofs.Laws.{batch-taken, batch-refused, batch-writes}
 
 -- states that agree: one size, and buffers of one length with the same bytes below 32 × size
@@ -52,8 +54,8 @@ module _ (digest : List ℕ → List ℕ) (digest-32 : (x : List ℕ) → length
         ∙ sym (splice-through at xs (t .bytes) (omega (arith, like .long, a .long)))
         ∙ sym (ap₂ take (sym (like .long)) (like .other)))
         (λ z.
-        let p = next-left digest s r z in
-        let q = next-left digest t r (λ h. z (like .number ∙ h)) in
+        let p = told-refused digest (s .size) r (s .bytes) z in
+        let q = told-refused digest (t .size) r (t .bytes) (λ h. z (like .number ∙ h)) in
         ap (λ (x : AppendOutcome). take (32 * x .size) (x .bytes)) p ∙ a .same
         ∙ sym (ap₂ (λ (x y : AppendOutcome). take (32 * x .size) (y .bytes)) p q))
 
@@ -75,10 +77,10 @@ module _ (digest : List ℕ → List ℕ) (digest-32 : (x : List ℕ) → length
         let k = 32 * next digest s r .hashes in
         let l : length (new digest t r) ≡ k = new-long digest t r digest-32 ∙ ap (λ (x : ℕ). 32 * x) (sym (like .hashes)) in
         let b : next digest t r .bytes ≡ splice at (new digest t r) (t .bytes) =
-        next-bytes digest t r digest-32 y ∙ ap (λ (x : ℕ). splice (32 * x) (new digest t r) (t .bytes)) (sym (a .size)) in
+        append-writes digest (t .size) r (t .bytes) y ∙ ap (λ (x : ℕ). splice (32 * x) (new digest t r) (t .bytes)) (sym (a .size)) in
         let fits : at + k ≡ 32 * next digest s r .size = omega (arith, m .hashes) in
         sym (part-splice at k (new digest s r) (s .bytes) (new-long digest s r digest-32) (omega (arith, m .room)))
-        ∙ ap (part at k) (sym (next-bytes digest s r digest-32 z) ∙ like .one)
+        ∙ ap (part at k) (sym (append-writes digest (s .size) r (s .bytes) z) ∙ like .one)
         ∙ part-splice at k (like .new) (s .bytes) (omega (arith, like .long)) (omega (arith, m .room))
         ∙ sym (part-splice at k (like .new) (t .bytes) (omega (arith, like .long)) (omega (arith, m .room, a .long)))
         ∙ ap (part at k) (sym (like .other) ∙ b)
@@ -144,7 +146,7 @@ module _ (digest : List ℕ → List ℕ) (digest-32 : (x : List ℕ) → length
           long =
               omega (
                 arith,
-                news-long digest digest-32 (begun size bs) rs,
+                hashed-length digest digest-32 (runHashed digest (begun size bs) rs) (total-hashed digest (begun size bs) rs),
                 run-counts digest (begun size bs) rs,
                 ap (λ (x : AppendOutcome). x .size) (d .is),
               );

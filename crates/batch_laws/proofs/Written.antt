@@ -1,30 +1,24 @@
 -- What appending one by one writes where none is refused, over any digest function with digests of 32 bytes: the digests of what it hashes, from byte
 -- 32 × old size on, and every other byte stays as it was.
-use mathlib.Core.Path.{_≡_, refl, sym, ap, _∙_}
+use mathlib.Core.Path.{_≡_, sym, ap, _∙_}
 use mathlib.Core.List.{List, [], _∷_, _++_, map, map-append}
 use Prim.Native.Nat.{ℕ, _+_, _*_, _≤_}
 use native.Mathlib.Omega.{arith}
-use lib.ListN.{length, length-map, length-append}
+use lib.ListN.{length, length-append}
 use Rattle.wire.specs.Slices.{splice, joined}
-use Rattle.wire.proofs.Each.{each-map}
-use Rattle.wire.proofs.Joined.{joined-length, joined-append}
+use Rattle.wire.proofs.Joined.{joined-append}
 use Rattle.wire.proofs.Splices.{splice-none, splice-splice}
 use Rattle.log.specs.Appends.{State, step, run}
 use Rattle.log.specs.Hashed.{appendHashed, runHashed}
-use Rattle.batch.specs.Batch.{next, met, hashTotal}
-use Rattle.batch.proofs.Next.{next-more, new, new-long, next-bytes, next-long}
-use Rattle.batch_laws.proofs.Runs.{met-none, total-hashed}
+use Rattle.log.proofs.Hashed.{append-writes}
+use Rattle.batch.specs.Batch.{met}
+use Rattle.batch.proofs.Next.{next-more, new, new-long, next-long}
+use Rattle.batch_laws.proofs.Runs.{met-none}
 
 module _ (digest : List ℕ → List ℕ) (digest-32 : (x : List ℕ) → length (digest x) ≡ 32) where
   -- the digests of what is hashed
   abbrev pub news : State → List (List ℕ) → List ℕ
   news s rs = joined (map digest (runHashed digest s rs))
-
-  pub news-long : (s : State) (rs : List (List ℕ)) → length (news s rs) ≡ 32 * hashTotal digest s rs
-  news-long s rs =
-      let hs = runHashed digest s rs in
-      joined-length (map digest hs) (each-map 32 digest digest-32 hs)
-      ∙ ap (λ (x : ℕ). 32 * x) (length-map hs digest ∙ sym (total-hashed digest s rs))
 
   pub news-next : (s : State) (r : List ℕ) (rs : List (List ℕ)) → news s (r ∷ rs) ≡ new digest s r ++ news (step digest s r) rs
   unfolding runHashed
@@ -43,7 +37,7 @@ module _ (digest : List ℕ → List ℕ) (digest-32 : (x : List ℕ) → length
       let t = step digest s r in
       let k = next-more digest s r (m .0) in
       let l = new-long digest s r digest-32 in
-      let b = next-bytes digest s r digest-32 (m .0) in
+      let b = append-writes digest (s .size) r (s .bytes) (m .0) in
       let e = next-long digest s r digest-32 in
       let w = writes-from t rs (omega (arith, k .room)) (m .1) in
       let at : 32 * t .size ≡ 32 * s .size + length (new digest s r) = omega (arith, k .hashes) in

@@ -1,7 +1,6 @@
 -- The items of a letter, over any digest function: how many there are and can be, what a log's nodes, any function from position to digest, give for
 -- them and for the leaf, the root worked out from them.
 use mathlib.Core.Logic.{_≢_}
-use mathlib.Core.Path.{_≡_}
 use mathlib.Core.Bool.{true, false, _&&_}
 use mathlib.Core.List.{List, [], map}
 use Prim.Native.Nat.{ℕ, _≤_, _<_}

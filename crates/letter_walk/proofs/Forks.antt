@@ -8,7 +8,7 @@ use native.Mathlib.Omega.{arith}
 use borrow.Author.Tests.{eq-eqb, ne-eqb}
 use lib.ListN.{length}
 use Rattle.wire.specs.Slices.{differ}
-use Rattle.shape.specs.Tree.{left, right, root, inputs}
+use Rattle.shape.specs.Tree.{root, inputs}
 use Rattle.shape.specs.Way.{wayIn}
 use Rattle.shape.specs.Positions.{top, behind, peaksIn, fold}
 use Rattle.shape.specs.Difference.{difference}

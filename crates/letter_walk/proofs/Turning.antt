@@ -6,7 +6,6 @@ use Prim.Native.Nat.{ℕ, zero, suc, _+_, _-_, _*_, _%_, _^_, _≤_, _<_}
 use native.Mathlib.Omega.{arith}
 use lib.ListN.{length}
 use lib.Pow.{pow-mono}
-use Rattle.shape.specs.Tree.{left, right, past}
 use Rattle.shape.specs.Way.{wayIn}
 use Rattle.shape.specs.Positions.{top, behind, peaksIn, fold}
 use Rattle.shape.specs.Difference.{agree, difference}

@@ -9,7 +9,7 @@ use Rattle.wire.specs.Writers.{WriteOutcome, writeRefused, writeDone}
 use Rattle.shape.specs.Sizes.{countAnswer, leaves}
 use Rattle.nodes.specs.Nodes.{nodeIn}
 use Rattle.letter.specs.Bytes.{letterBytes}
-use Rattle.letter.specs.Items.{itemCount, itemsOf, foreign}
+use Rattle.letter.specs.Items.{itemsOf, foreign}
 
 module _ (digest : List ℕ → List ℕ) where
   -- our letter for an index of a log of this size: its record, and the items that the log's nodes give

@@ -4,7 +4,7 @@ use mathlib.Core.Path.{_≡_, refl, sym, ap, _∙_}
 use mathlib.Core.Logic.{by-cases, _≢_}
 use mathlib.Core.List.{List, [], _∷_, _++_, map, map-append, append-assoc, append-nil}
 use mathlib.Core.List.{Perm, Perm·refl, Perm·cons, Perm·trans, Perm·append-left, Perm·append-right, perm-middle}
-use Prim.Native.Nat.{ℕ, suc, _*_, _<_}
+use Prim.Native.Nat.{ℕ, _*_, _<_}
 use native.Mathlib.Decide.{ℕ-discrete, decLt}
 use native.Mathlib.Omega.{arith}
 use borrow.Author.Needs.{needs}
@@ -13,7 +13,7 @@ use lib.ListN.{length, length-map}
 use lib.Seq.{append-snoc}
 use Rattle.order.proofs.Laws.{refuses}
 use Rattle.wire.specs.Slices.{splice, joined}
-use Rattle.shape.specs.Sizes.{sizeOf, countAnswer, leaves}
+use Rattle.shape.specs.Sizes.{countAnswer, leaves}
 use Rattle.shape.specs.Nodes.{newNodes}
 use Rattle.shape.specs.Tree.{places, inputs, hashedAt}
 use Rattle.shape.specs.Folded.{treeIn, tree}

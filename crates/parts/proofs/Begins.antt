@@ -8,7 +8,7 @@ use Rattle.words.specs.Words.{wordsOf}
 use Rattle.chunks.specs.Chunks.{chained, before}
 use Rattle.blake.specs.Blake.{keyedFlag}
 use Rattle.wire.specs.Slices.{zeros}
-use Rattle.parts_rule.specs.Run.{Run, between, runAfter}
+use Rattle.parts_rule.specs.Run.{between, runAfter}
 use Rattle.parts_rule.proofs.Folds.{lefts-one}
 use Rattle.parts.specs.declared.Parts.{Parts}
 use Rattle.parts_rule.specs.Stack.{joined}

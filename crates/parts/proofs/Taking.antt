@@ -1,7 +1,7 @@
 -- What a part makes of a state, as it is stored.
-use mathlib.Core.Path.{_≡_, refl, sym, ap, ap₂, _∙_, subst}
-use mathlib.Core.List.{List, [], _∷_, _++_, append-nil}
-use Prim.Native.Nat.{ℕ, _+_, _-_, _*_, _/_, _%_, _^_, _≤_, _<_}
+use mathlib.Core.Path.{_≡_, refl, sym, ap, ap₂, _∙_}
+use mathlib.Core.List.{List, _++_, append-nil}
+use Prim.Native.Nat.{ℕ, _+_, _-_, _*_, _/_, _^_, _≤_, _<_}
 use native.Mathlib.Omega.{arith}
 use lib.Count.{ones}
 use lib.ListN.{length, take, drop, length-append, length-drop, take-append-drop}
@@ -9,11 +9,11 @@ use lib.Seq.{length-take-le, take-all}
 use Rattle.blake.specs.Modes.{flagIn}
 use Rattle.wire.specs.Slices.{zeros}
 use Rattle.parts_rule.specs.Subtrees.{finished}
-use Rattle.parts_rule.specs.Run.{Run, between, put, flushed, taken}
+use Rattle.parts_rule.specs.Run.{between, put, flushed, taken}
 use Rattle.parts_rule.proofs.Puts.{taken-put, taken-filled}
 use Rattle.parts.specs.declared.Parts.{Parts}
 use Rattle.parts_rule.specs.Counts.{heldOf}
-use Rattle.parts_rule.specs.Stack.{subtrees, joined, padded}
+use Rattle.parts_rule.specs.Stack.{subtrees, padded}
 use Rattle.parts.specs.State.{startIn, startOf, flagOf, Counted, runOf, stored}
 use Rattle.parts_rule.specs.Steps.{Full, fullRun, Gone, Ready, Went}
 use Rattle.parts_rule.proofs.Places.{subtrees-length, joined-take}

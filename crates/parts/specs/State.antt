@@ -1,8 +1,8 @@
 -- A state as it is stored, and what counts of it.
 use mathlib.Core.Path.{_≡_}
-use mathlib.Core.List.{List, [], _∷_, _++_}
-use Prim.Native.Nat.{ℕ, zero, suc, _+_, _-_, _*_, _/_, _^_, _≤_}
-use lib.ListN.{length, take, drop}
+use mathlib.Core.List.{List}
+use Prim.Native.Nat.{ℕ, zero, suc, _^_, _≤_}
+use lib.ListN.{length, take}
 use Rattle.compression.specs.Compression.{starting}
 use Rattle.blake.specs.Modes.{wordsIn, flagIn}
 use Rattle.digest.specs.Modes.{numberIn, keyIn}

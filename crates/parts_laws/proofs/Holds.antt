@@ -4,9 +4,7 @@ use mathlib.Core.List.{List, [], _∷_, _++_, append-nil}
 use Prim.Native.Nat.{ℕ, zero, suc, _+_, _^_, _≤_, zero-le}
 use native.Mathlib.Omega.{arith}
 use lib.ListN.{length, length-append}
-use Rattle.compression.specs.Compression.{starting}
 use Rattle.words.specs.Words.{wordsOf}
-use Rattle.blake.specs.Blake.{digested, keyedFlag}
 use Rattle.blake.specs.Modes.{wordsIn, flagIn}
 use Rattle.blake.proofs.Modes.{mode-hash}
 use Rattle.digest.specs.Digest.{digestIn}
@@ -17,7 +15,6 @@ use Rattle.parts_rule.specs.Run.{Run, runAfter, taken, ended}
 use Rattle.parts_rule.proofs.Takes.{ended-after, taken-after}
 use Rattle.parts.specs.declared.Parts.{Parts}
 use Rattle.parts.specs.declared.Added.{Added}
-use Rattle.parts.specs.declared.Ended.{Ended}
 use Rattle.parts.specs.State.{startIn, startOf, flagOf, Counted, Holds, runOf, stored}
 use Rattle.parts.specs.Answers.{begunIn, beginOutcome, after, addOutcome, endOutcome}
 use Rattle.parts.proofs.Answering.{add-done, end-done}

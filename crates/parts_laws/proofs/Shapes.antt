@@ -2,20 +2,19 @@
 use mathlib.Core.Path.{_≡_, refl, sym, ap, ap₂, _∙_, subst⁻¹}
 use mathlib.Core.List.{List, [], _∷_, _++_, append-assoc}
 use mathlib.Core.Logic.{by-cases}
-use Prim.Native.Nat.{ℕ, zero, suc, _+_, _-_, _*_, _/_, _^_, _≤_, _<_}
+use Prim.Native.Nat.{ℕ, zero, suc, _+_, _-_, _*_, _/_, _^_, _≤_}
 use native.Mathlib.Decide.{decLe}
 use native.Mathlib.Omega.{arith}
 use lib.ListN.{length, take, drop, length-drop}
 use lib.Seq.{drop-append-add, take-at}
 use Rattle.chunks.specs.Chunks.{before}
 use Rattle.chunks.proofs.Lengths.{chunked-length}
-use Rattle.blake.specs.Blake.{parented, treed}
+use Rattle.blake.specs.Blake.{treed}
 use Rattle.blake.proofs.Sides.{short-suc, long-suc}
 use Rattle.wire.specs.Slices.{zeros}
 use Rattle.parts_rule.specs.Subtrees.{leftsIn}
 use Rattle.parts_rule.specs.Run.{Run, runAfter}
 use Rattle.parts_rule.proofs.Folds.{parented-length, lefts-low, lefts-high, lefts-count}
-use Rattle.parts.specs.declared.Parts.{Parts}
 use Rattle.parts_rule.specs.Stack.{subtrees, joined}
 use Rattle.parts.specs.State.{Counted, runOf, stored}
 

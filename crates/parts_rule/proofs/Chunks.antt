@@ -1,20 +1,19 @@
 -- A chunk that is taken whole: from its start on, its 1,024 bytes and what follows come to its value on the stack.
-use mathlib.Core.Path.{_≡_, refl, sym, ap, ap₂, _∙_, subst⁻¹}
+use mathlib.Core.Path.{_≡_, refl, sym, ap, ap₂, _∙_}
 use mathlib.Core.List.{List, [], _∷_, _++_, append-nil}
-use Prim.Native.Nat.{ℕ, zero, suc, _+_, _-_, _*_, _/_, _%_, _^_, _≤_, _<_}
+use Prim.Native.Nat.{ℕ, suc, _+_, _-_, _*_, _/_, _≤_, _<_}
 use native.Mathlib.Decide.{ℕ-discrete}
 use native.Mathlib.Nat.{add-zero}
 use native.Mathlib.Omega.{arith}
-use lib.ListN.{length, take, drop, length-drop, length-append, drop-of-length-le}
-use lib.Seq.{length-take-le, take-all, take-append-le, append-snoc, take-at, drop-at, drop-append-le}
-use lib.Count.{ones, ones-step}
+use lib.ListN.{length, take, drop, length-drop, length-append}
+use lib.Seq.{append-snoc, take-at, drop-at, drop-append-le}
+use lib.Count.{ones}
 use Rattle.compression.specs.Compression.{compressed}
 use Rattle.words.specs.Words.{wordsOf}
 use Rattle.chunks.specs.Chunks.{chunkEnd, startFlag, chained, before, chunked}
-use Rattle.blake.specs.Blake.{parented, treed}
-use Rattle.parts_rule.specs.Subtrees.{finished, folded, pushed}
-use Rattle.parts_rule.specs.Run.{Run, between, inChunk, blockNumber, opening, onward, goneOn, chunkDone, flushed, roomed, put, taken}
-use Rattle.parts_rule.proofs.Takes.{roomed-room, roomed-full, flushed-on, flushed-end, chained-same, more-blocks, full-at}
+use Rattle.parts_rule.specs.Subtrees.{finished, pushed}
+use Rattle.parts_rule.specs.Run.{Run, between, inChunk, blockNumber, opening, onward, goneOn, roomed, put, taken}
+use Rattle.parts_rule.proofs.Takes.{block-low, roomed-room, roomed-full, flushed-on, flushed-end, chained-same, more-blocks, full-at}
 use Rattle.parts_rule.proofs.Puts.{taken-append}
 
 -- a run at the start of chunk number c, with t bytes of it
@@ -35,9 +34,6 @@ full-some t h = omega arith
 
 full-whole : (t : ℕ) → t ≡ 1024 → t - 64 * ((t - 1) / 64) ≡ 64
 full-whole t e = omega arith
-
-block-in : (t : ℕ) → 64 * ((t - 1) / 64) ≤ t
-block-in t = omega arith
 
 module _ (key : List ℕ) (flag c : ℕ) (stack : List (List ℕ)) (chain : List ℕ) where
   -- the run with cs of the chunk
@@ -70,8 +66,8 @@ module _ (key : List ℕ) (flag c : ℕ) (stack : List (List ℕ)) (chain : List
         let eb : q ≡ (length more - 1) / 64 = more-blocks t (length more) longer h in
         λ k. record {
           stack = stack;
-          chain = (sym (chained-same chain flag c cs (b ∷ []) q (block-in t)) ∙ ap (chained chain flag c more) eb) k;
-          block = (sym (drop-append-le (64 * q) cs (b ∷ []) (block-in t)) ∙ ap (λ (x : ℕ). drop (64 * x) more) eb) k;
+          chain = (sym (chained-same chain flag c cs (b ∷ []) q (block-low t)) ∙ ap (chained chain flag c more) eb) k;
+          block = (sym (drop-append-le (64 * q) cs (b ∷ []) (block-low t)) ∙ ap (λ (x : ℕ). drop (64 * x) more) eb) k;
           total = total-more k;
         }
 
@@ -86,14 +82,14 @@ module _ (key : List ℕ) (flag c : ℕ) (stack : List (List ℕ)) (chain : List
         let ei : blockNumber (1024 * c + t) ≡ q = within-block c t some (omega arith) in
         let lb : length (drop (64 * q) cs) ≡ 64 = length-drop (64 * q) cs ∙ h in
         let eb : drop (64 * q) cs ≡ take 64 (drop (64 * q) more) =
-        sym (take-at (drop (64 * q) cs) (b ∷ []) 64 lb) ∙ ap (take 64) (sym (drop-append-le (64 * q) cs (b ∷ []) (block-in t))) in
+        sym (take-at (drop (64 * q) cs) (b ∷ []) 64 lb) ∙ ap (take 64) (sym (drop-append-le (64 * q) cs (b ∷ []) (block-low t))) in
         λ k. record {
           stack = stack;
           chain =
               (ap₂ (λ (n i : ℕ). compressed (chained chain flag c cs q) (wordsOf 16 (drop (64 * q) cs)) n (length (drop (64 * q) cs)) (flag + startFlag i)) en ei
               ∙ ap (λ (n : ℕ). compressed (chained chain flag c cs q) (wordsOf 16 (drop (64 * q) cs)) c n (flag + startFlag q)) lb
               ∙ ap₂ (λ (cv m : List ℕ). compressed cv (wordsOf 16 m) c 64 (flag + startFlag q))
-              (sym (chained-same chain flag c cs (b ∷ []) q (block-in t))) eb
+              (sym (chained-same chain flag c cs (b ∷ []) q (block-low t))) eb
               ∙ ap (chained chain flag c more) eq) k;
           block = (sym (drop-at cs (b ∷ []) (length cs) refl) ∙ ap (λ (x : ℕ). drop x more) (full-at t (length more) longer h)) k;
           total = total-more k;

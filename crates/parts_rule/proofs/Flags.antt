@@ -1,6 +1,6 @@
 -- Which block of its chunk a block is, by the bytes of the chunk.
-use mathlib.Core.Path.{_≡_, refl, ap, _∙_}
-use Prim.Native.Nat.{ℕ, zero, suc, _+_, _-_, _*_, _/_, _≤_, _<_}
+use mathlib.Core.Path.{_≡_, refl}
+use Prim.Native.Nat.{ℕ, zero, suc, _-_, _*_, _/_, _≤_, _<_}
 use native.Mathlib.Omega.{arith}
 use Rattle.chunks.specs.Chunks.{startFlag}
 use Rattle.parts_rule.specs.Subtrees.{finished}

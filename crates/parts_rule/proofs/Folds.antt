@@ -7,7 +7,7 @@ use native.Mathlib.Nat.{pow-suc}
 use native.Mathlib.Decide.{decLe, decLt}
 use native.Mathlib.Omega.{arith}
 use lib.ListN.{length, take, drop, length-drop, length-append}
-use lib.Seq.{take-at, drop-at, drop-drop, take-append-le, drop-append-le, length-take-le}
+use lib.Seq.{take-at, drop-at, drop-drop, take-append-le, drop-append-le}
 use lib.Pow.{pow-pos}
 use lib.Count.{ones}
 use borrow.Author.Tests.{le-leb, lt-leb}

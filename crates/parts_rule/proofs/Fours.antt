@@ -1,7 +1,7 @@
 -- Four whole chunks taken at once: their values, pushed one by one, are their tree pushed.
-use mathlib.Core.Path.{_≡_, refl, sym, ap, ap₂, _∙_}
+use mathlib.Core.Path.{_≡_, sym, ap, ap₂, _∙_}
 use mathlib.Core.List.{List, [], _∷_, _++_, append-assoc}
-use Prim.Native.Nat.{ℕ, zero, suc, _+_, _-_, _*_, _/_, _%_, _^_, _≤_, _<_}
+use Prim.Native.Nat.{ℕ, _+_, _-_, _*_, _/_, _%_, _≤_, _<_}
 use native.Mathlib.Omega.{arith}
 use lib.ListN.{length, take, drop, length-drop, length-append, drop-of-length-le, take-append-drop}
 use lib.Seq.{drop-drop, length-take-le, take-all, take-append-le, drop-append-le}
@@ -11,7 +11,7 @@ use Rattle.chunks.specs.Lanes.{chunkIn}
 use Rattle.blake.specs.Blake.{parented, treed}
 use Rattle.blake.proofs.tree.Four.{four}
 use Rattle.parts_rule.specs.Subtrees.{folded, pushed}
-use Rattle.parts_rule.specs.Run.{Run, taken, between}
+use Rattle.parts_rule.specs.Run.{taken, between}
 use Rattle.parts_rule.proofs.Numbers.{ones-suc}
 use Rattle.parts_rule.proofs.Folds.{folded-nil, folded-snoc}
 use Rattle.parts_rule.proofs.Chunks.{whole-chunk}

@@ -1,6 +1,6 @@
 -- A block that has gone on, and steps through a part, as runs.
 use mathlib.Core.Path.{_≡_, refl, sym, ap, ap₂, _∙_}
-use mathlib.Core.List.{List, [], _∷_, _++_}
+use mathlib.Core.List.{List, _++_}
 use Prim.Native.Nat.{ℕ, _+_, _-_, _*_, _/_, _%_, _^_, _≤_, _<_}
 use native.Mathlib.Omega.{arith}
 use lib.Count.{ones}
@@ -9,7 +9,7 @@ use lib.Seq.{length-take-le, take-all, drop-drop}
 use Rattle.compression.specs.Compression.{compressed}
 use Rattle.words.specs.Words.{wordsOf}
 use Rattle.chunks.specs.Chunks.{startFlag, chunked}
-use Rattle.blake.specs.Blake.{treed, treed4}
+use Rattle.blake.specs.Blake.{treed4}
 use Rattle.blake.proofs.tree.Four.{treed4-done}
 use Rattle.parts_rule.specs.Subtrees.{finished, pushed}
 use Rattle.parts_rule.specs.Run.{Run, inChunk, blockNumber, between, put, flushed, taken}

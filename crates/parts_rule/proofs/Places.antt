@@ -4,7 +4,7 @@ use mathlib.Core.List.{List, [], _∷_, _++_, append-nil, append-assoc}
 use Prim.Native.Nat.{ℕ, zero, suc, _+_, _-_, _*_, _≤_, _<_}
 use native.Mathlib.Omega.{arith}
 use lib.ListN.{length, take, drop, length-append, length-drop, drop-of-length-le, take-append-drop}
-use lib.Seq.{paste, take-at, drop-at, drop-append-le, take-append-le, drop-append-seam, take-all, drop-length, take-add, take-take, length-take-le, length-paste}
+use lib.Seq.{paste, take-at, drop-at, drop-append-le, take-append-le, take-all, take-add, length-take-le, length-paste}
 use lib.Count.{ones}
 use Rattle.blake.specs.Blake.{parented, rootNode}
 use Rattle.parts_rule.specs.Subtrees.{folded, pushed}

@@ -1,18 +1,17 @@
 -- A run that holds xs and takes a byte holds xs and that byte, and its digest is that of xs.
-use mathlib.Core.Path.{_≡_, refl, sym, ap, ap₂, _∙_, subst, subst⁻¹}
+use mathlib.Core.Path.{_≡_, refl, sym, ap, ap₂, _∙_, subst⁻¹}
 use mathlib.Core.List.{List, [], _∷_, _++_, append-nil}
-use mathlib.Core.Logic.{by-cases}
 use Prim.Native.Nat.{ℕ, zero, suc, _+_, _-_, _*_, _/_, _^_, _≤_, _<_}
-use native.Mathlib.Decide.{decLe, decLt, ℕ-discrete}
+use native.Mathlib.Decide.{ℕ-discrete}
 use native.Mathlib.Omega.{arith}
 use lib.ListN.{length, take, drop, length-drop, length-append}
-use lib.Seq.{append-snoc, take-at, drop-at, drop-drop, take-append-le, drop-append-le, length-take-le, take-all}
+use lib.Seq.{append-snoc, take-at, drop-at, drop-drop, take-append-le, drop-append-le}
 use lib.Count.{ones}
 use borrow.Author.Tests.{eq-eqb, ne-eqb}
 use Rattle.compression.specs.Compression.{compressed}
 use Rattle.words.specs.Words.{wordsOf, bytesOf}
 use Rattle.chunks.specs.Chunks.{chunkEnd, startFlag, chained, before, chunked}
-use Rattle.blake.specs.Blake.{rootNode, treed, treeOf, digested}
+use Rattle.blake.specs.Blake.{rootNode, digested}
 use Rattle.blake.proofs.Sides.{tree-enough}
 use Rattle.parts_rule.specs.Subtrees.{finished, leftsIn, lastChunk, folded, pushed}
 use Rattle.parts_rule.specs.Run.{Run, inChunk, blockNumber, runAfter, opening, onward, goneOn, chunkDone, flushed, roomed, put, taken, ended}
@@ -27,7 +26,7 @@ number-low t = omega arith
 chunk-low : (t : ℕ) → 1024 * ((t - 1) / 1024) ≤ t
 chunk-low t = omega arith
 
-block-low : (t : ℕ) → 64 * ((t - 1) / 64) ≤ t
+pub block-low : (t : ℕ) → 64 * ((t - 1) / 64) ≤ t
 block-low t = omega arith
 
 full-suc : (b q c : ℕ) → 16 * c ≤ q → b ≡ q - 16 * c → suc b ≡ suc q - 16 * c

@@ -1,7 +1,7 @@
 -- What counts of a state, how it takes a byte, and its digest, in a mode: `key` and `flag` are those of BLAKE3's definitions.
 use mathlib.Core.Bool.{true, false}
 use mathlib.Core.List.{List, [], _∷_, _++_}
-use Prim.Native.Nat.{ℕ, suc, _+_, _-_, _*_, _/_}
+use Prim.Native.Nat.{ℕ, _+_, _-_, _*_, _/_}
 use lib.ListN.{length, drop}
 use lib.Dec.{eqb}
 use lib.Count.{ones}

@@ -1,7 +1,7 @@
 -- What the code's own steps are called, which no public contract cites.
 use mathlib.Core.Path.{_≡_}
 use mathlib.Core.List.{List}
-use Prim.Native.Nat.{ℕ, _+_, _-_, _*_, _/_, _%_, _^_, _≤_, _<_}
+use Prim.Native.Nat.{ℕ, _+_, _/_, _%_, _^_, _≤_, _<_}
 use lib.Count.{ones}
 use lib.ListN.{length, drop}
 use Rattle.parts_rule.specs.Run.{Run, between, flushed, taken}

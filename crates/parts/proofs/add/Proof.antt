@@ -1,7 +1,6 @@
 -- The two refusals, a part of no bytes, and a part.
-use mathlib.Core.Path.{sym, ap, _∙_}
+use mathlib.Core.Path.{sym, _∙_}
 use native.Mathlib.Omega.{arith}
-use lib.ListN.{length}
 use Rattle.parts.proofs.Answering.{is-counted, add-refused, add-passed, add-done, after-none, after-some}
 use borrow.Author.Needs.{needs}
 use Rattle.parts.proofs.add.Statement.{statement}

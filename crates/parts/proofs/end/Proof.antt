@@ -1,7 +1,5 @@
 -- The refusal, and the digest.
-use mathlib.Core.Path.{sym, ap, _∙_}
-use native.Mathlib.Omega.{arith}
-use lib.ListN.{length}
+use mathlib.Core.Path.{sym, _∙_}
 use Rattle.parts.proofs.Answering.{is-counted, end-refused, end-done}
 use borrow.Author.Needs.{needs}
 use Rattle.parts.proofs.end.Statement.{statement}

@@ -1,5 +1,5 @@
 -- A loop writes zeros.
-use Prim.Native.Nat.{_-_, _≤_}
+use Prim.Native.Nat.{_-_}
 use native.Mathlib.Omega.{arith}
 use lib.ListN.{length}
 use Rattle.parts_rule.proofs.Copies.{Clears, clears-none, clears-more, clears-all, clears-beyond, copies-size}

@@ -1,6 +1,5 @@
 -- `batch_run::lists::show_all` is safe and ends: the loop takes forty turns.
 use Prim.Native.Nat.{_-_, _≤_}
-use native.Mathlib.Omega.{arith}
 use borrow.Author.Needs.{needs}
 use Rattle.batch_run.proofs.lists.show_all.Statement.{statement}
 use Rattle.batch_run.proofs.lists.show_all.Tie as tie

@@ -2,7 +2,6 @@
 use Prim.Native.Nat.{_-_, _≤_, zero-le}
 use native.Mathlib.Omega.{arith}
 use mathlib.Core.Path.{refl}
-use lib.ListN.{length}
 use Rattle.wire.specs.Slices.{zeros}
 use Rattle.parts_rule.proofs.Copies.{Copies, copies-none, copies-more, copies-padded, copies-behind, copies-size}
 use borrow.Author.Needs.{needs}

@@ -1,7 +1,5 @@
 -- A block inside its chunk, or the last: `Going` has what comes of each.
-use mathlib.Core.Path.{ap, _∙_}
-use Prim.Native.Nat.{ℕ, _+_}
-use native.Mathlib.Omega.{arith}
+use Prim.Native.Nat.{_+_}
 use Rattle.parts_rule.proofs.Counts.{pushes-at}
 use Rattle.subtrees.proofs.Laws.{push-rule}
 use Rattle.parts_rule.proofs.Going.{gone-end, gone-on}

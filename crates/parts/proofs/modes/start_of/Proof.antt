@@ -1,5 +1,4 @@
 -- Plain or keyed.
-use mathlib.Core.Path.{refl}
 use Rattle.parts.proofs.Begins.{start-plain, start-keyed}
 use Rattle.parts.proofs.modes.start_of.Statement.{statement}
 use Rattle.parts.proofs.modes.start_of.Tie as tie

@@ -1,8 +1,7 @@
 -- The block is filled and goes on, and the rest begins between two blocks: `Taking` has what is stored.
-use mathlib.Core.Path.{sym, ap, _∙_}
+use mathlib.Core.Path.{sym, _∙_}
 use native.Mathlib.Omega.{arith}
-use lib.ListN.{length, length-map}
-use lib.Seq.{length-take-le}
+use lib.ListN.{length-map}
 use Rattle.parts.proofs.Taking.{space-length, fills-full, fills}
 use borrow.Author.Needs.{needs}
 use Rattle.parts.proofs.take.fill.Statement.{statement}

@@ -1,7 +1,7 @@
 -- Room in the block, no byte held, or a block to fill.
 use mathlib.Core.Path.{sym, ap, _∙_}
 use native.Mathlib.Omega.{arith}
-use lib.ListN.{length, length-map}
+use lib.ListN.{length-map}
 use Rattle.parts.specs.State.{stored}
 use Rattle.parts.proofs.Taking.{takes-put, none-ready, takes-none}
 use borrow.Author.Needs.{needs}
