@@ -54,6 +54,9 @@ enum {
     /* digest in parts: a part that would pass 2^40 bytes in all, a state with a total above that, or one whose counts are not its total's: the input
        is too long for it, or the state is damaged; begin again, with the first byte */
     KEEPER_PARTS_OFF = 17,
+    /* digest in a stored leaf isn't that of its record: the record or the digest in it was changed, or the leaf was written in another mode (another
+       league's key, or none): do not use its record; take the leaf from a copy, and read it in the log's own mode */
+    KEEPER_OTHER_DIGEST = 18,
     /* key not 32 bytes: take the league's key whole, and nothing with it */
     KEEPER_NOT_A_KEY = 24
 };
@@ -148,10 +151,11 @@ uint32_t keeper_store_leaf(const keeper_mode *mode, const uint8_t *rec, size_t r
 /* A stored inner node, into the first bytes of out: byte 00, digest. length is how many bytes were written, 33. 12, 6. */
 uint32_t keeper_store_inner(const uint8_t *digest, size_t digest_len, uint8_t *out, size_t out_len, size_t *length);
 
-/* A stored node, read: its kind, KEEPER_INNER or KEEPER_LEAF; its digest, taken as it stands, into the first 32 bytes of out; its record,
-   which is the record_len bytes from bytes + record_at on, none for an inner node. 11 (its form), 3, 11 (the exact length), 6. */
-uint32_t keeper_read_node(const uint8_t *bytes, size_t bytes_len, uint32_t *kind, uint8_t *out, size_t out_len, size_t *record_at,
-                          size_t *record_len);
+/* A stored node, read: its kind, KEEPER_INNER or KEEPER_LEAF; its digest, into the first 32 bytes of out: for a leaf it is that of its record,
+   worked out in that mode, for an inner node taken as it stands in every mode; its record, which is the record_len bytes from bytes + record_at on,
+   none for an inner node. 11 (its form), 3, 11 (the exact length), 18, 6. */
+uint32_t keeper_read_node(const keeper_mode *mode, const uint8_t *bytes, size_t bytes_len, uint32_t *kind, uint8_t *out, size_t out_len,
+                          size_t *record_at, size_t *record_len);
 
 /* The letter of an index, into the first bytes of out: size (8), index (8), record length (4), all big-endian; record; items of 32 bytes. The
    record is the one that was logged there, and nodes the log's. length is how many bytes were written, 20 + rec_len + 32 for each item, of

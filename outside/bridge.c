@@ -52,7 +52,7 @@ static uint32_t letter_check(void) { return keeper_letter_check(MODE(0), numbers
 static uint32_t find(void) { return keeper_find(MODE(0), numbers[0], BUFFER(1), BUFFER(2), BUFFER(3), BUFFER(4), BUFFER(5), U32(6)); }
 static uint32_t store_leaf(void) { return keeper_store_leaf(MODE(0), BUFFER(1), BUFFER(2), SIZE(3)); }
 static uint32_t store_inner(void) { return keeper_store_inner(BUFFER(0), BUFFER(1), SIZE(2)); }
-static uint32_t read_node(void) { return keeper_read_node(BUFFER(0), U32(1), BUFFER(2), SIZE(3), SIZE(4)); }
+static uint32_t read_node(void) { return keeper_read_node(MODE(0), BUFFER(1), U32(2), BUFFER(3), SIZE(4), SIZE(5)); }
 
 /* append_many over a buffer that is too long to be sent, numbers[1] bytes: the part is its end, and before it are zeros that nobody has written.
    The number of no call where there is no such memory. */
@@ -122,7 +122,7 @@ static const struct {
     {"find", find, 4},
     {"store_leaf", store_leaf, 2},
     {"store_inner", store_inner, 1},
-    {"read_node", read_node, 1},
+    {"read_node", read_node, 2},
     {"append_wide", append_wide, 3},
     {"parts_cut", parts_cut, 3},
     {"stray", stray, 0},

@@ -23,7 +23,7 @@ PARTS = {
     "find": ("mode", "nodes", "record", "letter", "first", "second", "found"),
     "store_leaf": ("mode", "record", "out", "length"),
     "store_inner": ("digest", "out", "length"),
-    "read_node": ("bytes", "kind", "digest_out", "record_at", "record_len"),
+    "read_node": ("mode", "bytes", "kind", "digest_out", "record_at", "record_len"),
     "append_wide": ("mode", "joined", "lengths", "end", "new_size", "hashes"),
     "parts_cut": ("mode", "input", "lengths", "state", "out"),
     "stray": ("part",),
@@ -31,7 +31,7 @@ PARTS = {
 }
 # Those that are no calls of the library: one that is another once more, several in a row, and two of the bridge alone.
 NO_CALLS = ("append_wide", "parts_cut", "stray", "layout")
-# Those that work out a digest, in the mode that is their first part.
+# Those that work out a digest, in the mode that is their first part; the reader of stored nodes does so for a leaf.
 MODED = tuple(call for call, parts in PARTS.items() if parts[0] == "mode" and len(parts) > 1 and "state" not in parts)
 # Where a case has the number of its mode: the part, and the place in it.
 NUMBER_AT = {**dict.fromkeys((*MODED, "parts_begin", "parts_cut"), (0, 0)), "parts_add": (1, 20), "parts_end": (0, 20)}
@@ -160,9 +160,9 @@ def inner_case(given, room):
     return Case("store_inner", (), [given, b"\x2d" * room, u64(21 << 33)])
 
 
-def read_case(data, room):
+def read_case(data, room, mode=PLAIN):
     """A stored node read, the digest into so many bytes."""
-    return Case("read_node", (), [data, u32(77), b"\x1e" * room, u64(15 << 33), u64(17 << 33)])
+    return Case("read_node", (), [mode, data, u32(77), b"\x1e" * room, u64(15 << 33), u64(17 << 33)])
 
 
 def flipped(data, place, mask=1):

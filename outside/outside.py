@@ -138,8 +138,8 @@ def say_store_inner(numbers, given, out, length):
     return number, [given, bytes(buffer), u64(written)]
 
 
-def say_read_node(numbers, data, kind, out, record_at, record_len):
-    read = stored.read_stored(data)
+def say_read_node(numbers, digest, data, kind, out, record_at, record_len):
+    read = stored.read_stored(data, digest)
     number = 6 if read.number == 0 and len(out) < NODE else read.number
     leaf = read.kind == "leaf"
     return number, [data, u32(leaf), read.digest + out[NODE:], u64(37 if leaf else 0), u64(len(read.record))]
@@ -166,7 +166,7 @@ CALLS = {
     "find": Call(say_find, (0, 1, 10, 4, 7, 8, 5, 3, 9, 13, 14, 6)),
     "store_leaf": Call(say_store_leaf, (0, 3, 6)),
     "store_inner": Call(say_store_inner, (0, 12, 6)),
-    "read_node": Call(say_read_node, (0, 11, 3, 6)),
+    "read_node": Call(say_read_node, (0, 11, 3, 18, 6)),
 }
 
 

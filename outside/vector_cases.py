@@ -182,7 +182,7 @@ def inner_asked(given, answer):
 
 
 def read_asked(given, answer):
-    case = read_case(given["node"], NODE)
+    case = read_case(given["node"], NODE, mode_in(given))
     return asked_once(case, answer, lambda: [u32({"inner": 0, "leaf": 1}[answer["kind"]]), answer["digest"], u64(answer["record_at"]),
                                              u64(len(answer["record"]))])
 

@@ -18,6 +18,7 @@ from rules.letters import size_in
 from rules.log import LONGEST_RECORD, NODE, append, folded, node, root
 from rules.plain import plain_items
 from rules.shape import MOST_LEAVES, items_of, leaf_count, leaf_position, nodes_of, size_of, trailing_ones
+from stored import check_stored
 from table import check_numbers
 
 PUBLISHED = Path(__file__).resolve().parent.parent / "vectors" / "blake3-published.txt"
@@ -231,6 +232,7 @@ def check():
         good &= check_letters(leaves, name)
     good &= check_parts()
     good &= check_batches()
+    good &= check_stored()
     good &= check_leagues(4)
     good &= check_finder(9)
     good &= check_orders()

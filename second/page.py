@@ -13,7 +13,7 @@ from rules.log import LONGEST_RECORD, NODE, append, node, root
 from rules.parts import MOST_BYTES, PLACES, WORDS, State, add, begin, end, finished, held_of, stacked_of
 from rules.plain import largest_power
 from rules.shape import MOST_LEAVES, items_of, leaf_count, leaf_position, nodes_of, size_of
-from rules.stored import stored_inner, stored_leaf
+from rules.stored import read_stored, stored_inner, stored_leaf
 
 TOP = Path(__file__).resolve().parent.parent
 PAGE = TOP / "docs" / "RULES.md"
@@ -40,6 +40,8 @@ STATES = (
 # Section 4.4: the fields of a state in C, their types and how many bytes they have.
 FIELDS = (("total", "uint64_t", 8), ("held", "uint64_t", 8), ("stacked", "uint32_t", 4), ("keyed", "uint32_t", 4), ("key", "uint32_t[8]", 32),
           ("chain", "uint32_t[8]", 32), ("stack", "uint32_t[240]", 960), ("block", "uint8_t[64]", 64))
+# Section 8.4: what somebody has put in place of the first record.
+EDITED = b"foul"
 # Section 9.3: the name of an example, the leaf count, the index.
 ITEMS = (("", 1, 0), ("", 2, 1), ("", 3, 2), ("M14", 5, 2), ("M15", 7, 4), ("M16", 7, 0), ("", 8, 3), ("", 11, 9))
 
@@ -137,12 +139,50 @@ def batch_rows():
         yield f"| {size:,} | {joined_said(records)} | {with_comma(lengths) or 'none'} | {room} | {said} |"
 
 
+def with_last_bit(data, place):
+    """Bytes with the last bit of one of them changed."""
+    return data[:place] + bytes([data[place] ^ 1]) + data[place + 1:]
+
+
+def edited_leaves():
+    """The three leaves of section 8.4: the record edited, the digest edited, under the key."""
+    leaf = stored_leaf(RECORDS[0])
+    return leaf[:-len(EDITED)] + EDITED, with_last_bit(leaf, 32), stored_leaf(RECORDS[0], LEAGUES[0])
+
+
+def shown_nodes():
+    """The nodes of the table in section 8.4: a name, and the bytes."""
+    leaf, inner, (record, digits, under) = stored_leaf(RECORDS[0]), stored_inner(node(small_log()[0], 2)), edited_leaves()
+    yield "the leaf of `goal`", leaf
+    yield "the same, its record changed to `foul`", record
+    yield "the same, its record changed to `foul`, and its digest to that of `foul`", stored_leaf(EDITED)
+    yield "the same, the last bit of its digest changed", digits
+    yield "the leaf of `goal` under the key", under
+    yield "the same, its record changed to `foul`", under[:-len(EDITED)] + EDITED
+    yield "the parent in 7.6", inner
+    yield "the same, the last bit of its digest changed", with_last_bit(inner, 32)
+    yield "the changed leaf, `foul` in it, with a byte behind it", record + b"\0"
+    yield "the changed leaf, stating 16,385 bytes", record[:33] + (LONGEST_RECORD + 1).to_bytes(4, "big") + record[37:]
+    yield "the changed leaf, its first byte 02", b"\2" + record[1:]
+
+
+def read_said(data, mode):
+    """What a reader answers, as the page has it."""
+    read = read_stored(data, mode)
+    return f"number {read.number}" if read.number else f"done, {read.kind}" + (f", {len(read.record)} bytes" if read.kind == "leaf" else "")
+
+
+def stored_rows():
+    """The rows of section 8.4, as they stand one behind the other."""
+    yield " ".join(f"| {name} | {read_said(data, PLAIN)} | {read_said(data, LEAGUES[0])} |" for name, data in shown_nodes())
+
+
 def order_rows():
     """Rows of section 3."""
     yield f"| mode of a key | {keyed(b'').number} |"
     for name, call in (("part, added", "parts_add"), ("digest in parts, ended", "parts_end")):
         yield f"| {name} | {', '.join(sorted({entry.split()[0] for entry in ORDERS[call]}))} |"
-    for name, call in (("append", "append"), ("root", "root"), ("letter, written", "letter_write")):
+    for name, call in (("append", "append"), ("root", "root"), ("stored node, read", "read_node"), ("letter, written", "letter_write")):
         yield f"| {name} | {', '.join(ORDERS[call])} |"
     if [entry.split()[0] for entry in ORDERS["append_many"][:5]] == ["1", "16", *ORDERS["append"][1:]]:
         yield f"| append of many | 1, 16, then of the first record that has any: {', '.join(ORDERS['append'][1:])} |"
@@ -169,6 +209,7 @@ def sentences():
     yield f"the {KEY} ASCII bytes `{KEYS[0].decode()}`."
     yield "its first two words are {:08x} and {:08x}.".format(*words_of(KEYS[0]))
     yield f"the {len(KEYS[1])} bytes from {KEYS[1][0]} up to {KEYS[1][-1]}."
+    yield f"| {read_stored(edited_leaves()[0]).number} | the digest in a stored leaf isn't that of its record |"
     yield f"| {keyed(b'').number} | a key is not {KEY} bytes |"
     yield f"| input of the digest, in parts | 0 bytes | {MOST_BYTES:,} bytes in all, which is 2^40 |"
     yield f"A state (5.7) is a struct of {sum(size for _, _, size in FIELDS):,} bytes, `keeper_parts`,"
@@ -199,7 +240,7 @@ def example_bytes():
         yield bytes_of(in_parts(mode).stack[:WORDS])
     nodes, _ = small_log()
     yield end(state_of(0, 0, 0)).digest
-    yield from (keyed(bytes(KEY)).mode(b""), stored_leaf(RECORDS[0]), stored_inner(node(nodes, 2)), WHOLE_LETTER)
+    yield from (keyed(bytes(KEY)).mode(b""), stored_leaf(RECORDS[0]), stored_inner(node(nodes, 2)), *edited_leaves(), WHOLE_LETTER)
     yield from (noted(), KEYS[0] + noted(LEAGUES[0]))
     yield from (letter for letter, _, _, _ in forgeries(nodes))
 
@@ -210,7 +251,7 @@ def keyed_as_said():
     (top, letter), (plain_top, plain_letter) = shown_letter(mode), shown_letter()
     keys = [keyed(one).number for one in (key[:-1], key + b"\n", key.hex().encode(), b"")]
     in_modes = [check_letter(4, top, letter, Mode(number, key)).number for number in (1, 2, 2**31, 0)]
-    changed = [bytes([*key[:place], key[place] ^ 1, *key[place + 1:]]) for place in range(KEY)]
+    changed = [with_last_bit(key, place) for place in range(KEY)]
     refused = [check_letter(4, top, letter, keyed(one).mode).number for one in (other, *changed)]
     refused += [check_letter(4, plain_top, letter).number, check_letter(4, top, plain_letter, mode).number]
     whole = key + noted(mode) + letter
@@ -244,7 +285,7 @@ def as_said():
     nodes, _ = small_log()
     top, letter = shown_letter()
     whole = noted() + letter
-    changed = [letter[:place] + bytes([letter[place] ^ 1]) + letter[place + 1:] for place in range(20, len(letter))]
+    changed = [with_last_bit(letter, place) for place in range(20, len(letter))]
     numbers = [check_letter(4, top, shown).number for shown in (letter[:-1], letter + b"\0", *changed)]
     forged = [(check_letter(size, of, shown).number, check_letter(named, of, shown).number) for shown, size, named, of in forgeries(nodes)]
     return (check_letter(4, top, letter) == (0, 1, 20, 7) and numbers == [7, 7] + [9] * len(changed) and forged == [(8, 0), (8, 0)]
@@ -255,7 +296,7 @@ def examples_stand(page):
     """Look for each example in the page, and for digests in it that are none."""
     lines, squeezed = " ".join(page.split()), "".join(page.split())
     made = [data.hex() for data in example_bytes()]
-    rows = (*order_rows(), *field_rows(), *count_rows(), *state_rows(), *shape_rows(), *batch_rows(), *item_rows())
+    rows = (*order_rows(), *field_rows(), *count_rows(), *state_rows(), *shape_rows(), *batch_rows(), *stored_rows(), *item_rows())
     wanted = [(text, lines) for text in (*rows, *sentences())] + [(text, squeezed) for text in made]
     missing = [text for text, where in wanted if text not in where]
     foreign = [found for found in re.findall("[0-9a-f]{64}", page) if not any(found in one for one in made)]

@@ -31,7 +31,7 @@ OTHERS = {
     "PERMUTATION = (2, 6, 3, 10, 7, 0, 4, 13, 1, 11, 12, 5, 9, 14, 15, 8)",
     "COLUMNS = ((0, 4, 8, 12), (1, 5, 9, 13), (2, 6, 10, 14), (3, 7, 11, 15))",
     "DIAGONALS = ((0, 5, 10, 15), (1, 6, 11, 12), (2, 7, 8, 13), (3, 4, 9, 14))",
-    'return Case("read_node", (), [data, u32(77), b"\\x1e" * room, u64(15 << 33), u64(17 << 33)])',
+    'return Case("read_node", (), [mode, data, u32(77), b"\\x1e" * room, u64(15 << 33), u64(17 << 33)])',
 }
 # Lines that say that it is struck.
 SAID = {

@@ -251,9 +251,17 @@ def random_store_inner(chance, world, given):
     return Case("store_inner", (), [chance.bytes_like(world.digest(given.record)), chance.out(33), chance.variable()])
 
 
+def any_leaf(chance, world, record):
+    """A stored leaf: true, or with another record, another's digest, or both of one other record."""
+    other = chance.choice((chance.damage(record), chance.choice(world.records)))[:LONGEST_RECORD]
+    shown, hashed = chance.often((record, record), (other, record), (record, other), (other, other))
+    return stored.stored_leaf(shown, lambda _: world.digest(hashed))
+
+
 def random_read_node(chance, world, given):
-    data = chance.often(stored.stored_leaf(given.record[:LONGEST_RECORD], world.digest), stored.stored_inner(world.digest(given.record)))
-    return Case("read_node", (), [chance.bytes_like(data), chance.randbytes(4), chance.out(NODE), chance.variable(), chance.variable()])
+    leaf, inner = any_leaf(chance, world, given.record[:LONGEST_RECORD]), stored.stored_inner(world.digest(given.record))
+    data = chance.bytes_like(chance.often(leaf, inner))
+    return Case("read_node", (), [world.mode, data, chance.randbytes(4), chance.out(NODE), chance.variable(), chance.variable()])
 
 
 # Each kind of random case, and how often it is taken.
@@ -263,7 +271,7 @@ RANDOM = {
     random_store_leaf: 1, random_store_inner: 1, random_read_node: 1,
 }
 # Those of calls that work out no digest, and have no mode.
-NO_MODE = (random_number, random_store_inner, random_read_node)
+NO_MODE = (random_number, random_store_inner)
 # Those of calls that have it in a state.
 IN_STATE = (random_parts_add, random_parts_end)
 

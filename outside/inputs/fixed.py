@@ -1,7 +1,9 @@
-"""The fixed cases: numbers beside the edges, every byte of some letters and nodes damaged, logs of every length, stored nodes of every form."""
+"""The fixed cases: numbers beside the edges, every byte of some letters and every bit of some nodes damaged, logs of every length, stored nodes of
+every form."""
 import itertools
 
-from calls import append_case, check_case, digest_case, find_case, flipped, inner_case, number_case, read_case, root_case, write_case
+from calls import PLAIN, append_case, check_case, digest_case, find_case, flipped, inner_case, number_case, read_case, root_case, write_case
+from inputs.world import LEAGUES, digest_in
 from rules import stored
 from rules.letters import LETTER_HEAD
 from rules.log import LONGEST_RECORD, NODE
@@ -68,17 +70,44 @@ def fixed_roots(world):
 
 def fixed_nodes(world):
     """Stored nodes with every byte damaged, and the digest into 32 bytes, one less and one more."""
-    leaf, inner = stored.stored_leaf(world.records[1]), stored.stored_inner(world.root(1))
+    leaf, inner = stored.stored_leaf(world.records[1], world.digest), stored.stored_inner(world.root(1))
     for data in (leaf, inner, *damaged(leaf), *damaged(inner)):
         for room in (NODE - 1, NODE, NODE + 1):
-            yield read_case(data, room)
+            yield read_case(data, room, world.mode)
+
+
+def bits(data, places):
+    """Every bit of the bytes at these places changed in turn."""
+    return (flipped(data, place, 1 << bit) for place in places for bit in range(8))
+
+
+def fixed_bits(world):
+    """Every bit of an inner node changed; of leaves with a record of no byte, one, some, a chunk and the most, every bit of what stands before the
+    record, and of the record every bit where it is short and else one in every so many bytes."""
+    for data in bits(stored.stored_inner(world.root(7)), range(33)):
+        yield read_case(data, NODE, world.mode)
+    for length, step in ((0, 0), (1, 0), (40, 0), (1024, 3), (LONGEST_RECORD, 401)):
+        leaf = stored.stored_leaf(world.longer[:length], world.digest)
+        some = (flipped(leaf, place, 1 << place % 8) for place in (*range(37, len(leaf), step), len(leaf) - 1)) if step else ()
+        for data in (leaf, *bits(leaf, range(37 if step else len(leaf))), *some, leaf[:-1], leaf + b"\0"):
+            yield read_case(data, NODE, world.mode)
+
+
+def fixed_edits(world):
+    """Leaves with each two of some records, and the digest of each of them, plain and of both leagues; into 32 bytes, one less and one more."""
+    records = [b"", b"\0", world.records[5], flipped(world.records[5], 0), world.longer[:1024], world.longer[1:1025], world.longer[:LONGEST_RECORD]]
+    for shown, hashed, mode, room in itertools.product(records, records, (PLAIN, *LEAGUES), (NODE - 1, NODE, NODE + 1)):
+        yield read_case(stored.stored_leaf(shown, lambda _: digest_in(mode)(hashed)), room, world.mode)
 
 
 def fixed_forms(world):
-    """Inner nodes written from digests of another length; nodes read with every first byte, length and stated length that decides."""
-    leaf = stored.stored_leaf(world.records[5])
+    """Inner nodes written from digests of another length; nodes read with every first byte, length and stated length that decides, and the digest of
+    the record or another."""
+    leaf = stored.stored_leaf(world.records[5], world.digest)
     for length, room in itertools.product((0, 31, 33), (0, 32, 33, 34)):
         yield inner_case(bytes(range(length)), room)
-    for flag, length, stated, room in itertools.product((0, 1, 2, 3, 128, 255), (0, 1, 32, 33, 34, 36, 37, 38, len(leaf)),
-                                                        (0, 1, len(leaf) - 37, LONGEST_RECORD + 1, 2**32 - 1), (0, NODE - 1, NODE)):
-        yield read_case((bytes([flag]) + leaf[1:33] + stated.to_bytes(4, "big") + leaf[37:])[:length], room)
+    for flag, digest, length, stated, room in itertools.product((0, 1, 2, 3, 128, 255), (leaf[1:33], flipped(leaf[1:33], 9)),
+                                                                (0, 1, 32, 33, 34, 36, 37, 38, len(leaf), len(leaf) + 1),
+                                                                (0, 1, len(leaf) - 37, LONGEST_RECORD + 1, 2**32 - 1), (0, NODE - 1, NODE)):
+        data = bytes([flag]) + digest + stated.to_bytes(4, "big") + leaf[37:] + b"\0"
+        yield read_case(data[:length], room, world.mode)

@@ -3,11 +3,12 @@ import itertools
 import random
 
 from calls import (BEFORE, append_case, check_case, cut_case, digest_case, find_case, flipped, leaf_case, many_case, mode_bytes, mode_keyed_case,
-                   mode_plain_case, root_case, write_case)
+                   mode_plain_case, read_case, root_case, write_case)
 from expected.given import KEYS, LEAGUES
 from portable.orders import order_cases
 from rules.log import NODE
 from rules.shape import nodes_of
+from rules.stored import stored_inner, stored_leaf
 from vector_cases import cases_of, read_vector
 
 MODE = len(BEFORE)
@@ -34,7 +35,8 @@ def fixed_modes(world):
 
 
 def true_cases(world, mode):
-    """Each call that works out a digest, with the world's own inputs, in a mode that may be another."""
+    """Each call that works out a digest, with the world's own inputs, in a mode that may be another. Stored nodes are a leaf, true and edited, and an
+    inner node."""
     size, nodes, record, letter = nodes_of(LEAVES), world.nodes(LEAVES), world.records[INDEX], world.letter(LEAVES, INDEX)
     yield digest_case(record, NODE, mode)
     yield cut_case(world.longer[:1100], [1000, 100], mode)
@@ -46,6 +48,8 @@ def true_cases(world, mode):
     yield check_case(size, world.root(LEAVES), letter, mode)
     yield find_case(size, nodes, record, letter, mode=mode)
     yield leaf_case(record, 37 + len(record), mode)
+    for data in (stored_leaf(record, world.digest), flipped(stored_leaf(record, world.digest), 32, 128), stored_inner(world.root(LEAVES))):
+        yield read_case(data, NODE, mode)
 
 
 def fixed_any_modes(world):

@@ -1,4 +1,4 @@
-"""The vectors of keys and modes: keys taken and refused, modes of every kind, and logs, stored leaves, letters and finds under a key."""
+"""The vectors of keys and modes: keys taken and refused, modes of every kind, and logs, stored nodes, letters and finds under a key."""
 import itertools
 
 from expected.given import KEYS, LEAGUES
@@ -10,16 +10,19 @@ from portable.form import case, counted, logged
 from portable.letters import check_case, damages, flipped, write_case
 from portable.logs import append_case, root_case, small_log, whole_case
 from portable.orders import singles
-from portable.stored import RECORD, leaf_case
+from portable.stored import LENGTHS, RECORD, edits, leaf_case, read_case
 from rules.blake3 import PLAIN, Mode, keyed
 from rules.letters import WHOLE_LETTER, letter_of
 from rules.log import LONGEST_RECORD, NODE, root
 from rules.shape import nodes_of
+from rules.stored import stored_inner, stored_leaf
 
 ONE, OTHER = LEAGUES
 # Letters under a key: the leaf count of the log, and the index. The letter that is damaged is one of them.
 LETTERS = ((1, 0), (2, 1), (7, 0), (7, 2), (7, 6))
 LEAVES, INDEX = 7, 2
+# The modes of both leagues and of none, by whose they are.
+WHOSE = {"one league": ONE, "the other league": OTHER, "no league": PLAIN}
 
 
 def key_case(name, key):
@@ -49,12 +52,13 @@ def other_modes():
 
 
 def mode_cases():
-    """A digest in each of these modes, and a letter of the first league checked in it."""
+    """A digest in each of these modes, and a letter and a stored leaf of the first league checked and read in it."""
     size, nodes = small_log(LEAVES, ONE)
     top, letter = root(size, nodes, ONE).root, letter_of(size, INDEX, logged(INDEX), nodes, ONE)
     for name, mode in other_modes():
         yield digest_case(f"1025 bytes, {name}", counted(9, 1025), mode)
         yield check_case(f"record {INDEX} of {LEAVES}, {name}", size, top, letter, mode)
+        yield read_case(f"a stored leaf, {name}", stored_leaf(RECORD, ONE), mode)
 
 
 def log_cases():
@@ -78,6 +82,20 @@ def log_cases():
     yield leaf_case("leaf, one byte of room too few", RECORD, -1, ONE)
 
 
+def node_cases():
+    """Stored nodes read under a key: leaves of some lengths, one edited in each way, and inner nodes; a leaf of each mode in each other."""
+    for length in LENGTHS:
+        yield read_case(f"a stored leaf of {length} bytes", stored_leaf(counted(3, length), ONE), ONE)
+    for name, node in edits(RECORD, ONE):
+        yield read_case(f"a stored leaf, {name}", node, ONE)
+    for (whose, of), (where, mode) in itertools.permutations(WHOSE.items(), 2):
+        yield read_case(f"a stored leaf of {whose} in the mode of {where}", stored_leaf(RECORD, of), mode)
+    inner = stored_inner(ONE(RECORD))
+    for where, mode in WHOSE.items():
+        yield read_case(f"an inner node in the mode of {where}", inner, mode)
+    yield read_case("an inner node under a key, a bit of its digest changed", flipped(inner, 32), ONE)
+
+
 def letter_cases():
     """Letters written, checked and compared; one damaged in each way; the shortest and the longest."""
     for leaves, index in LETTERS:
@@ -95,8 +113,7 @@ def letter_cases():
 
 def league_cases():
     """A letter of each league and of none, in each other mode: checked, compared with its log, and written."""
-    modes = {"one league": ONE, "the other league": OTHER, "no league": PLAIN}
-    for (whose, of), (where, mode) in itertools.permutations(modes.items(), 2):
+    for (whose, of), (where, mode) in itertools.permutations(WHOSE.items(), 2):
         (size, nodes), record, name = small_log(2, of), logged(0), f"a letter of {whose} in the mode of {where}"
         letter = letter_of(size, 0, record, nodes, of)
         yield check_case(f"{name}, checked", size, root(size, nodes, of).root, letter, mode)
@@ -105,5 +122,5 @@ def league_cases():
 
 
 def keyed_cases():
-    """Keys, modes, logs, letters, leagues; then each refusal alone, under a key."""
-    return [*key_cases(), *mode_cases(), *log_cases(), *letter_cases(), *league_cases(), *(one for _, one in singles(ONE))]
+    """Keys, modes, logs, stored nodes, letters, leagues; then each refusal alone, under a key."""
+    return [*key_cases(), *mode_cases(), *log_cases(), *node_cases(), *letter_cases(), *league_cases(), *(one for _, one in singles(ONE))]

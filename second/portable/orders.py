@@ -8,12 +8,14 @@ from portable.finder import find_case
 from portable.letters import check_case, flipped, write_case
 from portable.logs import append_case, root_case, small_log
 from portable.parts import add_case, end_case, state_of
+from portable.stored import RECORD, read_case
 from rules.blake3 import PLAIN
 from rules.finder import PAIR
 from rules.letters import LETTER_HEAD, letter_of
 from rules.log import LONGEST_RECORD, NODE, root
 from rules.parts import MOST_BYTES, held_of, stacked_of
 from rules.shape import MOST_LEAVES, nodes_of
+from rules.stored import stored_leaf
 
 LEAVES, INDEX = 3, 0
 # An order: its entries, each a number and where there are two of it a word for which. A batch is of three records; its later ones have no 2 of their
@@ -22,6 +24,7 @@ FROM_7 = ("7 (under 20 bytes)", "8", "5", "3 (stated length)", "7 (exact length)
 ORDERS = {
     "parts_add": ("17 (total)", "17 (held)", "17 (stacked)", "17 (part)"),
     "parts_end": ("17 (total)", "17 (held)", "17 (stacked)"),
+    "read_node": ("11 (form)", "3", "11 (exact length)", "18"),
     "append": ("1", "2", "3", "4"),
     "append_many": ("1", "16", "2", "3 (first)", "4 (first)", "3 (middle)", "4 (middle)", "3 (last)", "4 (last)"),
     "root": ("1", "10", "4"),
@@ -70,6 +73,19 @@ def parts_calls():
     yield "parts_end", with_counts(end_case), true, off
 
 
+def with_fields(name, flag, digest, stated, record, length, mode):
+    """A case of a leaf with these fields, cut at a length or with zeros behind it."""
+    return read_case(name, (flag + digest + stated.to_bytes(4, "big") + record).ljust(length, b"\0")[:length], mode)
+
+
+def read_call(mode):
+    """The reader of stored nodes, on a leaf."""
+    leaf = stored_leaf(RECORD, mode)
+    true = {"flag": leaf[:1], "digest": leaf[1:33], "stated": len(RECORD), "record": RECORD, "length": len(leaf)}
+    return "read_node", with_fields, true, {"11 (form)": {"flag": b"\2"}, "3": {"stated": LONGEST_RECORD + 1},
+                                            "11 (exact length)": {"length": len(leaf) + 1}, "18": {"record": flipped(RECORD, 0)}}
+
+
 def with_letter(make, parts):
     """A case of a call that is given a letter, from the letter's parts and the call's own."""
     def made(name, **given):
@@ -80,6 +96,7 @@ def with_letter(make, parts):
 def calls(mode):
     """Each call: what makes a case of it, inputs that are done, and for each entry of its order a change to which it applies."""
     yield from parts_calls()
+    yield read_call(mode)
     size, nodes = small_log(LEAVES, mode)
     record, longer, short = logged(INDEX), counted(8, LONGEST_RECORD + 1), {"nodes": nodes[:-1]}
     letter, top, no_size = letter_of(size, INDEX, record, nodes, mode), root(size, nodes, mode).root, {"size": 2}

@@ -41,16 +41,18 @@ def stored_refusal(number):
     return StoredRead(number, "none", bytes(32), b"")
 
 
-def read_stored(data):
-    """Read a node: 11 for its form, then 3, then 11 for the exact length."""
+def read_stored(data, digest=PLAIN):
+    """Read a node: 11 for its form, then for a leaf 3, 11 for the exact length, 18 where the digest in it is not its record's."""
     inner, leaf = data[:1] == b"\x00", data[:1] == b"\x01"
     if len(data) < 33 or not (inner or leaf) or (inner and len(data) != 33) or (leaf and len(data) < 37):
         return stored_refusal(11)
     if inner:
         return StoredRead(0, "inner", data[1:33], b"")
-    stated = int.from_bytes(data[33:37], "big")
+    stated, record = int.from_bytes(data[33:37], "big"), data[37:]
     if stated > LONGEST_RECORD:
         return stored_refusal(3)
-    if len(data) != 37 + stated:
+    if len(record) != stated:
         return stored_refusal(11)
-    return StoredRead(0, "leaf", data[1:33], data[37:])
+    if digest(record) != data[1:33]:
+        return stored_refusal(18)
+    return StoredRead(0, "leaf", data[1:33], record)

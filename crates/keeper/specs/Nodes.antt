@@ -46,9 +46,9 @@ abbrev pub readWritten : ReadOutcome → List ℕ → ReadLeft
 readWritten o out = readLeft 0 (kindNumber (o .kind)) (splice 0 (o .digest) out) (o .start) (o .length)
 
 -- as the reader answers, then 6; the result variables held `oldKind`, `oldStart` and `oldLength`
-unfoldable pub readCall : List ℕ → ℕ → List ℕ → ℕ → ℕ → ReadLeft
-readCall bs oldKind out oldStart oldLength =
-    let o = readOutcome bs in
+unfoldable pub readCall : List ℕ → List ℕ → ℕ → List ℕ → ℕ → ℕ → ReadLeft
+readCall mode bs oldKind out oldStart oldLength =
+    let o = readOutcome (digestIn mode) bs in
     orKept (o .number)
     (verdict (λ number. readLeft number oldKind out oldStart oldLength) (outOrder out) (readWritten o out))
     (readLeft (o .number) oldKind out oldStart oldLength)

@@ -195,6 +195,7 @@ pub extern "C" fn keeper_store_inner(digest: &[u8], out: &mut [u8], length: &mut
 // A stored node read: its kind, its digest into the first 32 bytes of out, and where in the bytes its record lies.
 #[no_mangle]
 pub extern "C" fn keeper_read_node(
+    mode: &[u8; 36],
     bytes: &[u8],
     kind: &mut u32,
     out: &mut [u8],
@@ -202,9 +203,10 @@ pub extern "C" fn keeper_read_node(
     record_len: &mut usize,
 ) -> u32
     ensures { λ r. ⌜ readLeft r (now (kind .exit)) (now (out .exit)) (now («record_at» .exit)) (now («record_len» .exit))
-        ≡ readCall (now (bytes .entry)) (now (kind .entry)) (now (out .entry)) (now («record_at» .entry)) (now («record_len» .entry)) ⌝ }
+        ≡ readCall (now (mode .entry)) (now (bytes .entry)) (now (kind .entry)) (now (out .entry)) (now («record_at» .entry))
+        (now («record_len» .entry)) ⌝ }
 {
-    let reading = stored::read_node(bytes);
+    let reading = stored::read_node(mode, bytes);
     let number = stored::number_of(reading);
     if number != 0 {
         return number;

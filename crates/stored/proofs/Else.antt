@@ -5,13 +5,13 @@ use Prim.Native.Nat.{ℕ}
 use denote.Enum.Declared.{tagOf}
 use types.Run.{OneOf, miss}
 use Rattle.stored.specs.declared.Node.{Node}
-use Rattle.stored.specs.declared.Node.the-variants.{Inner, Leaf, NotANode, RecordTooLong}
+use Rattle.stored.specs.declared.Node.the-variants.{Inner, Leaf, NotANode, RecordTooLong, OtherDigest}
 use Rattle.stored.specs.Read.{valuesOf}
 use Rattle.stored.proofs.Node.{the-type}
 
 -- the other cases, by their places in the enum
 abbrev others : List ℕ
-others = 0 ∷ 2 ∷ 3 ∷ []
+others = 0 ∷ 2 ∷ 3 ∷ 4 ∷ []
 
 pub no-leaf : (node : Node) (digest : List ℕ) → OneOf others (tagOf the-type node)
     → (valuesOf node digest .start ≡ 0) × (valuesOf node digest .length ≡ 0)
@@ -19,3 +19,4 @@ no-leaf Inner digest other = (refl, refl)
 no-leaf (Leaf n) digest other = absurd (miss others 1 tt other)
 no-leaf NotANode digest other = (refl, refl)
 no-leaf RecordTooLong digest other = (refl, refl)
+no-leaf OtherDigest digest other = (refl, refl)

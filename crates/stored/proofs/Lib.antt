@@ -3,4 +3,5 @@ pub mod Fields
 mod Flags
 pub mod Ends
 pub mod Else
+pub mod Edited
 pub mod Only

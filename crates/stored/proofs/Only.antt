@@ -6,13 +6,14 @@ use Prim.Native.Nat.{ℕ}
 use lib.Dec.{eqb}
 use Rattle.order.proofs.Laws.{determined}
 use Rattle.stored.specs.declared.Node.{Node}
-use Rattle.stored.specs.declared.Node.the-variants.{Inner, Leaf, NotANode, RecordTooLong}
+use Rattle.stored.specs.declared.Node.the-variants.{Inner, Leaf, NotANode, RecordTooLong, OtherDigest}
 use Rattle.stored.specs.declared.Reading.{Reading}
 use Rattle.stored.specs.Read.{Kind, none, inner, leaf, ReadOutcome, valuesOf, readOff}
 
 -- the case with this kind, number and length
 caseOf : Kind → ℕ → ℕ → Node
-caseOf none number length = elim (eqb number 11) [ true ↦ NotANode | false ↦ RecordTooLong ]
+caseOf none number length =
+    elim (eqb number 11) [ true ↦ NotANode | false ↦ elim (eqb number 3) [ true ↦ RecordTooLong | false ↦ OtherDigest ] ]
 caseOf inner number length = Inner
 caseOf leaf number length = Leaf length
 
@@ -26,6 +27,7 @@ answer-case Inner digest = refl
 answer-case (Leaf n) digest = refl
 answer-case NotANode digest = refl
 answer-case RecordTooLong digest = refl
+answer-case OtherDigest digest = refl
 
 -- the reader's answer
 pub read-only : (outcome : ReadOutcome) {r s : Reading} → readOff r ≡ outcome → readOff s ≡ outcome → r ≡ s

@@ -3,7 +3,7 @@ use mathlib.Core.List.{List, _∷_, _++_}
 use Prim.Native.Nat.{ℕ}
 use lib.ListN.{length, getD}
 use Rattle.wire.specs.Numbers.{be, number}
-use Rattle.wire.specs.Slices.{part}
+use Rattle.wire.specs.Slices.{part, differ}
 
 -- ---- as it is made
 
@@ -21,9 +21,9 @@ leafBytes digest rec = 1 ∷ digest rec ++ be 4 (length rec) ++ rec
 abbrev pub flagIn : List ℕ → ℕ
 flagIn bs = getD bs 0 0
 
--- the digest, taken as it stands
-unfoldable pub digestIn : List ℕ → List ℕ
-digestIn bs = part 1 32 bs
+-- the digest that it names
+unfoldable pub namedIn : List ℕ → List ℕ
+namedIn bs = part 1 32 bs
 
 -- the stated record length of a leaf
 unfoldable pub statedIn : List ℕ → ℕ
@@ -32,3 +32,7 @@ statedIn bs = number (part 33 4 bs)
 -- the record of a leaf, of the stated length
 unfoldable pub recordIn : List ℕ → List ℕ
 recordIn bs = part 37 (statedIn bs) bs
+
+-- 0 where the digest that a leaf names is that of its record, else 1
+unfoldable pub lies : (List ℕ → List ℕ) → List ℕ → ℕ
+lies digest bs = differ (digest (recordIn bs)) (namedIn bs)

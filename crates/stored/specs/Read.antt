@@ -10,9 +10,9 @@ use Rattle.wire.specs.Slices.{zeros}
 use Rattle.wire.specs.Lent.{Part, partOf}
 use Rattle.order.specs.Order.{Refusal, _if_, _under_, _above_, _is-not_, verdict}
 use Rattle.stored.specs.declared.Node.{Node}
-use Rattle.stored.specs.declared.Node.the-variants.{Inner, Leaf, NotANode, RecordTooLong}
+use Rattle.stored.specs.declared.Node.the-variants.{Inner, Leaf, NotANode, RecordTooLong, OtherDigest}
 use Rattle.stored.specs.declared.Reading.{Reading}
-use Rattle.stored.specs.Nodes.{flagIn, digestIn, statedIn}
+use Rattle.stored.specs.Nodes.{flagIn, namedIn, statedIn, lies}
 
 -- the kind of a node; a refusal has none
 pub data Kind : Type 0 where
@@ -44,6 +44,7 @@ valuesOf Inner digest = innerRead digest
 valuesOf (Leaf n) digest = leafRead n digest
 valuesOf NotANode digest = readRefused digest 11
 valuesOf RecordTooLong digest = readRefused digest 3
+valuesOf OtherDigest digest = readRefused digest 18
 
 -- the outcome by the answer
 abbrev pub readOff : Reading → ReadOutcome
@@ -53,21 +54,26 @@ readOff answer = valuesOf (answer .node) (answer .digest)
 abbrev pub forFlag : ℕ → List ℕ → List Refusal → List Refusal
 forFlag flag bs order = elim (eqb (flagIn bs) flag) [ true ↦ order | false ↦ [] ]
 
--- 11 for under 33 bytes, unknown flag, an inner node not of 33, a leaf under 37; then 3; then 11 for the exact length
-unfoldable pub readOrder : List ℕ → List Refusal
-readOrder bs =
+-- 11 for under 33 bytes, unknown flag, an inner node not of 33, a leaf under 37; then 3; then 11 for the exact length; then 18 for the digest
+unfoldable pub readOrder : (List ℕ → List ℕ) → List ℕ → List Refusal
+readOrder digest bs =
     (11 if length bs under 33 ∷ 11 if flagIn bs above 1 ∷ [])
     ++ forFlag 0 bs (11 if length bs is-not 33 ∷ [])
-    ++ forFlag 1 bs (11 if length bs under 37 ∷ 3 if statedIn bs above longestRecord ∷ 11 if length bs is-not (37 + statedIn bs) ∷ [])
+    ++ forFlag 1 bs
+    (11 if length bs under 37
+    ∷ 3 if statedIn bs above longestRecord
+    ∷ 11 if length bs is-not (37 + statedIn bs)
+    ∷ 18 if lies digest bs is-not 0
+    ∷ [])
 
 -- done: an inner node, or a leaf with its stated record length
 unfoldable pub readDone : List ℕ → ReadOutcome
-readDone bs = elim (eqb (flagIn bs) 0) [ true ↦ innerRead (digestIn bs) | false ↦ leafRead (statedIn bs) (digestIn bs) ]
+readDone bs = elim (eqb (flagIn bs) 0) [ true ↦ innerRead (namedIn bs) | false ↦ leafRead (statedIn bs) (namedIn bs) ]
 
--- reading a node: a refusal has the digest all zero
-unfoldable pub readOutcome : List ℕ → ReadOutcome
-readOutcome bs = verdict (readRefused (zeros 32)) (readOrder bs) (readDone bs)
+-- reading a node, for any digest function: a refusal has the digest all zero
+unfoldable pub readOutcome : (List ℕ → List ℕ) → List ℕ → ReadOutcome
+readOutcome digest bs = verdict (readRefused (zeros 32)) (readOrder digest bs) (readDone bs)
 
 -- the record as a part of the bytes read
-abbrev pub recordPart : RefT (List ℕ) → Part
-recordPart r = partOf (readOutcome (now r) .start) (readOutcome (now r) .length) r
+abbrev pub recordPart : (List ℕ → List ℕ) → RefT (List ℕ) → Part
+recordPart digest r = let o = readOutcome digest (now r) in partOf (o .start) (o .length) r

@@ -1,5 +1,6 @@
-// Stored nodes at the edges, written and read, to be compared with the second program's.
+// Stored nodes at the edges, written, edited and read, to be compared with the second program's.
 ghost use mathlib.Core.Path.{_≡_};
+ghost use Rattle.digest.specs.Digest.{digestIn};
 ghost use Rattle.stored.specs.Read.{readOutcome};
 use runs::given;
 use runs::given::front;
@@ -19,10 +20,11 @@ struct Wanted {
 }
 
 // Takes the leaf case apart, and returns the refusal otherwise.
-fn leaf_length(bytes: &[u8]) -> Wanted
-    ensures { λ r. ⌜ (r .number ≡ readOutcome (now (bytes .entry)) .number) × (r .length ≡ readOutcome (now (bytes .entry)) .length) ⌝ }
+fn leaf_length(mode: &[u8; 36], bytes: &[u8]) -> Wanted
+    ensures { λ r. ⌜ (r .number ≡ readOutcome (digestIn (now (mode .entry))) (now (bytes .entry)) .number)
+        × (r .length ≡ readOutcome (digestIn (now (mode .entry))) (now (bytes .entry)) .length) ⌝ }
 {
-    let reading = stored::read_node(bytes);
+    let reading = stored::read_node(mode, bytes);
     let node = reading.node;
     let Node::Leaf(length) = node else {
         return Wanted {
@@ -47,26 +49,29 @@ fn say_kind(node: Node) -> usize {
         Node::Leaf(_) => say(b" leaf"),
         Node::NotANode => say(b" none"),
         Node::RecordTooLong => say(b" none"),
+        Node::OtherDigest => say(b" none"),
     }
 }
 
-// A line on what is read in bytes: their length; the number, the kind and the digest; the record's length and its digest.
-fn show_read(bytes: &[u8]) {
-    let reading = stored::read_node(bytes);
+// A line on what is read in bytes: their length; the number, the kind and the digest; the record's length, and the plain digest of the part that is
+// handed out, which beside a refusal is that of no bytes.
+fn show_read(mode: &[u8; 36], bytes: &[u8]) {
+    let reading = stored::read_node(mode, bytes);
     let node = reading.node;
     let digest = reading.digest;
-    let wanted = leaf_length(bytes);
+    let wanted = leaf_length(mode, bytes);
     let numbers = [bytes.len() as u64, wanted.number as u64];
     say_numbers(b"  read", &numbers);
     say_kind(node);
     say_hex(b" ", digest);
     say_number(b" ", wanted.length as u64);
-    say_digest(b" ", stored::record_of(bytes));
+    say_digest(b" ", stored::record_of(mode, bytes));
     end_line();
 }
 
 // The end of a line on what was written: the number, the length, the digest of as many bytes, that of the buffer. Then what is read there.
 fn show_written(written: Written, out: &[u8]) {
+    let mode = digest::plain();
     let number = written.number;
     let length = written.length;
     let numbers = [number as u64, length as u64];
@@ -75,7 +80,7 @@ fn show_written(written: Written, out: &[u8]) {
     say_digest(b" ", out);
     end_line();
     if number == 0 {
-        show_read(front(out, length));
+        show_read(&mode, front(out, length));
     }
 }
 
@@ -111,13 +116,14 @@ fn try_inner(digest: [u8; 32], out: &mut [u8], room: usize) {
 
 // Reads the first n bytes of a node with this flag and stated record length.
 fn try_node(flag: u8, stated: u32, n: usize) {
+    let mode = digest::plain();
     let mut node = counting();
     wire::write_byte(&mut node, 0, flag);
     wire::write4(&mut node, 33, stated);
     let numbers = [flag as u64, stated as u64];
     say_numbers(b"node", &numbers);
     end_line();
-    show_read(front(&node, n));
+    show_read(&mode, front(&node, n));
 }
 
 // Leaves with records of several lengths; the last record is one byte too long.
@@ -142,7 +148,8 @@ fn try_rooms(bytes: &[u8], out: &mut [u8]) {
     try_inner(digest, out, 32);
 }
 
-// An inner node, leaves with a record of one byte and of 16,384; then each refusal: 11 for its four causes, 3, 11 for the exact length.
+// An inner node; leaves with a record of one byte and of 16,384 that lie about their digest: 18. Then each refusal before that, of nodes that lie
+// too: 11 for its four causes, 3, 11 for the exact length.
 fn try_nodes() {
     try_node(0, 0, 33);
     try_node(1, 1, 38);
@@ -155,10 +162,101 @@ fn try_nodes() {
     try_node(1, 1, 37);
 }
 
+// A mode: plain, or keyed by the key of the published figures.
+fn mode_of(keyed: u32) -> [u8; 36] {
+    if keyed == 0 {
+        return digest::plain();
+    }
+    let m = digest::keyed(b"whats the Elvish word for friend");
+    m.mode
+}
+
+// Changes some bits of the byte at a place; past the end there is none.
+fn flip(bytes: &mut [u8], at: usize, bits: u8) {
+    let old = wire::read_byte(bytes, at);
+    wire::write_byte(bytes, at, old ^ bits);
+}
+
+// A buffer with the leaf of the first n counting bytes, in which bits of two bytes were changed.
+fn edited(keyed: u32, n: usize, at: usize, bits: u8, other: usize, more: u8) -> [u8; 16422] {
+    let mode = mode_of(keyed);
+    let bytes = counting();
+    let mut node = counting();
+    stored_writer::write_leaf(&mode, front(&bytes, n), &mut node);
+    flip(&mut node, at, bits);
+    flip(&mut node, other, more);
+    node
+}
+
+// What is read in the first bytes of a buffer.
+fn show_front(keyed: u32, node: [u8; 16422], length: usize) {
+    let mode = mode_of(keyed);
+    show_read(&mode, front(&node, length));
+}
+
+// A line on such a leaf: its record's length, and each place with the bits that are changed there. Then what is read in its first bytes.
+fn try_edit(keyed: u32, n: usize, length: usize, at: usize, bits: u8, other: usize, more: u8) {
+    let numbers = [n as u64, at as u64, bits as u64, other as u64, more as u64];
+    say_numbers(b"edit", &numbers);
+    end_line();
+    show_front(keyed, edited(keyed, n, at, bits, other, more), length);
+}
+
+// The leaf of n bytes, of that length and with its last byte at that place: true; then edited in the flag, in the first byte of the digest and in
+// the last, in the record length at both ends, in the first byte of the record and in the last, in digest and record. Behind a record of no bytes an
+// edit is not seen.
+fn try_regions(keyed: u32, n: usize, length: usize, last: usize) {
+    try_edit(keyed, n, length, 0, 0, 0, 0);
+    try_edit(keyed, n, length, 0, 1, 0, 0);
+    try_edit(keyed, n, length, 0, 2, 0, 0);
+    try_edit(keyed, n, length, 1, 128, 0, 0);
+    try_edit(keyed, n, length, 32, 1, 0, 0);
+    try_edit(keyed, n, length, 33, 128, 0, 0);
+    try_edit(keyed, n, length, 36, 1, 0, 0);
+    try_edit(keyed, n, length, 37, 128, 0, 0);
+    try_edit(keyed, n, length, last, 1, 0, 0);
+    try_edit(keyed, n, length, 32, 1, last, 1);
+}
+
+// A leaf that lies about its digest and has another fault as well, which comes first: 11 for under 33 bytes, for the flag, for an inner node not of
+// 33, for a leaf under 37; 3; 11 for the exact length, by the record length, by a byte less and by a byte more.
+fn try_orders() {
+    try_edit(0, 1, 32, 1, 128, 0, 0);
+    try_edit(0, 1, 38, 1, 128, 0, 2);
+    try_edit(0, 1, 38, 1, 128, 0, 1);
+    try_edit(0, 1, 36, 1, 128, 0, 0);
+    try_edit(0, 1, 38, 1, 128, 33, 128);
+    try_edit(0, 1, 38, 1, 128, 36, 1);
+    try_edit(0, 1, 37, 1, 128, 0, 0);
+    try_edit(0, 1, 39, 1, 128, 0, 0);
+}
+
+// A leaf of one mode read in another or in its own, and an inner node, whose digest is of neither.
+fn try_mode(of: u32, keyed: u32) {
+    say(b"mode 200\n");
+    show_front(keyed, edited(of, 200, 0, 0, 0, 0), 237);
+    show_front(keyed, counting(), 33);
+}
+
+// Leaves plain and keyed, edited in every region, and in the order; then each read in its own mode and in the other one.
+fn try_edits() {
+    try_regions(0, 0, 37, 36);
+    try_regions(0, 1, 38, 37);
+    try_regions(0, 1024, 1061, 1060);
+    try_regions(0, 16384, 16421, 16420);
+    try_orders();
+    try_regions(1, 1024, 1061, 1060);
+    try_mode(0, 0);
+    try_mode(0, 1);
+    try_mode(1, 0);
+    try_mode(1, 1);
+}
+
 fn main() {
     let bytes = counting();
     let mut out = counting();
     try_lengths(&bytes, &mut out);
     try_rooms(&bytes, &mut out);
     try_nodes();
+    try_edits();
 }

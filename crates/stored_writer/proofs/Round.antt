@@ -26,54 +26,55 @@ reported-done node out = rw splice-front (take-at node (drop (length node) out) 
 
 -- ---- what is written is read back
 
--- an inner node, with its digest
-pub inner-back : (digest out : List ℕ) → length digest ≡ 32 → innerOutcome digest out .number ≡ 0
-    → readOutcome (reported (innerOutcome digest out)) ≡ innerRead digest
+-- an inner node, with the digest that was given, whatever function makes the leaves' digests
+pub inner-back : (digest : List ℕ → List ℕ) (given out : List ℕ) → length given ≡ 32 → innerOutcome given out .number ≡ 0
+    → readOutcome digest (reported (innerOutcome given out)) ≡ innerRead given
 unfolding innerOutcome innerBytes
-inner-back digest out h z =
-    let a = accepted (λ w. w .number) (writeRefused out) (innerOrder out) (writeDone (innerBytes digest) out) (λ n. refl) refl refl tt z in
-    let n = inner-node (innerBytes digest) refl (omega (arith, ap suc h)) in
-    rw (a .1, reported-done (innerBytes digest) out, n .outcome, inner-digest digest h)
+inner-back digest given out h z =
+    let a = accepted (λ w. w .number) (writeRefused out) (innerOrder out) (writeDone (innerBytes given) out) (λ n. refl) refl refl tt z in
+    let n = inner-node digest (innerBytes given) refl (omega (arith, ap suc h)) in
+    rw (a .1, reported-done (innerBytes given) out, n .outcome, inner-digest given h)
 
 module _ (digest : List ℕ → List ℕ) (sized : (bs : List ℕ) → length (digest bs) ≡ 32) where
-  leaf-read : (rec : List ℕ) → length rec ≤ 16384 → readOutcome (leafBytes digest rec) ≡ leafRead (length rec) (digest rec)
-  unfolding leafBytes
+  leaf-read : (rec : List ℕ) → length rec ≤ 16384
+      → (readOutcome digest (leafBytes digest rec) ≡ leafRead (length rec) (digest rec)) × (recordIn (leafBytes digest rec) ≡ rec)
+  unfolding leafBytes recordIn
   leaf-read rec l =
       let bs : List ℕ = leafBytes digest rec in
       let s : statedIn bs ≡ length rec = leaf-stated digest rec (sized rec) (omega arith) in
-      let n = leaf-node bs refl (omega arith) (omega (arith, leaf-length digest rec (sized rec))) in
-      n .outcome ∙ rw (s, leaf-digest digest rec (sized rec))
+      let d = leaf-digest digest rec (sized rec) in
+      let r : recordIn bs ≡ rec = rw s (leaf-record digest rec (sized rec)) in
+      let n = leaf-node digest bs refl (omega arith) (omega (arith, leaf-length digest rec (sized rec))) (ap digest r ∙ sym d) in
+      (n .outcome ∙ rw (s, d), r)
 
   -- a leaf, with the digest of its record, and its record
   pub leaf-back : (rec out : List ℕ) → leafOutcome digest rec out .number ≡ 0
-      → (readOutcome (reported (leafOutcome digest rec out)) ≡ leafRead (length rec) (digest rec))
+      → (readOutcome digest (reported (leafOutcome digest rec out)) ≡ leafRead (length rec) (digest rec))
       × (recordIn (reported (leafOutcome digest rec out)) ≡ rec)
-  unfolding leafOutcome recordIn
+  unfolding leafOutcome
   leaf-back rec out z =
       let node : List ℕ = leafBytes digest rec in
       let a = accepted (λ w. w .number) (writeRefused out) (leafOrder rec out) (writeDone node out) (λ n. refl) refl refl tt z in
       let e : reported (leafOutcome digest rec out) ≡ node = rw (a .1) (reported-done node out) in
-      let r = leaf-read rec (a .0 .0) in
-      let k : statedIn node ≡ length rec = leaf-stated digest rec (sized rec) (omega (arith, a .0 .0)) in
-      (rw e r, rw (e, k) (leaf-record digest rec (sized rec)))
+      rw e (leaf-read rec (a .0 .0))
 
 -- ---- what is read is written again
 
 -- every inner node
-pub inner-again : (bs out : List ℕ) → readOutcome bs .kind ≡ inner → length bs ≤ length out
-    → innerOutcome (readOutcome bs .digest) out ≡ writeDone bs out
+pub inner-again : (digest : List ℕ → List ℕ) (bs out : List ℕ) → readOutcome digest bs .kind ≡ inner → length bs ≤ length out
+    → innerOutcome (readOutcome digest bs .digest) out ≡ writeDone bs out
 unfolding innerOutcome
-inner-again bs out k l =
-    let n = of-inner bs k in
-    let e : innerBytes (readOutcome bs .digest) ≡ bs = rw (n .outcome) (inner-whole bs (n .flag) (n .exact)) in
+inner-again digest bs out k l =
+    let n = of-inner digest bs k in
+    let e : innerBytes (readOutcome digest bs .digest) ≡ bs = rw (n .outcome) (inner-whole bs (n .flag) (n .exact)) in
     sym (passes (writeRefused out) (innerOrder out) _ (ap (λ (x : List ℕ). writeDone x out) (sym e)) (search needs))
 
--- a leaf with the true digest of its record
-pub leaf-again : (digest : List ℕ → List ℕ) (bs out : List ℕ) → Bytes bs → readOutcome bs .kind ≡ leaf
-    → readOutcome bs .digest ≡ digest (recordIn bs) → length bs ≤ length out → leafOutcome digest (recordIn bs) out ≡ writeDone bs out
+-- every leaf
+pub leaf-again : (digest : List ℕ → List ℕ) (bs out : List ℕ) → Bytes bs → readOutcome digest bs .kind ≡ leaf → length bs ≤ length out
+    → leafOutcome digest (recordIn bs) out ≡ writeDone bs out
 unfolding leafOutcome recordIn
-leaf-again digest bs out b k t l =
-    let n = of-leaf bs k in
-    let e : leafBytes digest (recordIn bs) ≡ bs = (leaf-whole bs b (n .flag) (n .exact) digest (rw (n .outcome) at t)) in
+leaf-again digest bs out b k l =
+    let n = of-leaf digest bs k in
+    let e : leafBytes digest (recordIn bs) ≡ bs = leaf-whole bs b (n .flag) (n .exact) digest (sym (n .true-digest)) in
     let m : length (recordIn bs) ≡ statedIn bs = part-length 37 (statedIn bs) bs in
     sym (passes (writeRefused out) (leafOrder (recordIn bs) out) _ (ap (λ (x : List ℕ). writeDone x out) (sym e)) (search needs))

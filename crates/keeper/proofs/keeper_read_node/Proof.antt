@@ -13,14 +13,14 @@ returns : tie.Need-returns
 returns c =
     let a = c .before .before .before .before .before .args in
     let r = c .before .before .read-node in
-    read-refused (a .bytes .now) (a .kind .now) (a .out .now) (a .record-at .now) (a .record-len .now) (r .result) (r .ensures) _
+    read-refused (a .mode .now) (a .bytes .now) (a .kind .now) (a .out .now) (a .record-at .now) (a .record-len .now) (r .result) (r .ensures) _
     (c .before .number-of .ensures) (λ z. omega arith)
 
 returns-2 : tie.Need-returns-2
 returns-2 c =
     let a = c .before .before .before .before .before .before .args in
     let r = c .before .before .before .read-node in
-    read-short (a .bytes .now) (a .kind .now) (a .out .now) (a .record-at .now) (a .record-len .now) (r .result) (r .ensures)
+    read-short (a .mode .now) (a .bytes .now) (a .kind .now) (a .out .now) (a .record-at .now) (a .record-len .now) (r .result) (r .ensures)
     (omega (arith, c .before .before .number-of .ensures)) (omega arith)
 
 returns-3 : tie.Need-returns-3
@@ -30,7 +30,7 @@ returns-3 c =
     let r = b .before .read-node in
     let z : readOff (r .result) .number ≡ 0 = omega (arith, b .number-of .ensures) in
     let i = of-inner (r .result .node) (r .result .digest) z (no-leaf (r .result .node) (r .result .digest) (c .match .keys2) .0) in
-    read-done (a .bytes .now) (a .kind .now) (a .out .now) (a .record-at .now) (a .record-len .now) (r .result) (r .ensures)
+    read-done (a .mode .now) (a .bytes .now) (a .kind .now) (a .out .now) (a .record-at .now) (a .record-len .now) (r .result) (r .ensures)
     (innerRead (r .result .digest)) _ i refl (omega arith) (c .before .before .before .write-digest .ensures)
 
 returns-4 : tie.Need-returns-4
@@ -39,7 +39,7 @@ returns-4 c =
     let a = b .before .before .before .before .args in
     let r = b .before .read-node in
     let l = ap (λ (x : Node). valuesOf x (r .result .digest)) (c .before .node .given .1) in
-    read-done (a .bytes .now) (a .kind .now) (a .out .now) (a .record-at .now) (a .record-len .now) (r .result) (r .ensures)
+    read-done (a .mode .now) (a .bytes .now) (a .kind .now) (a .out .now) (a .record-at .now) (a .record-len .now) (r .result) (r .ensures)
     (leafRead (c .before .node .given .0 .0) (r .result .digest)) _ l refl (omega arith)
     (c .before .before .before .before .before .write-digest .ensures)
 
