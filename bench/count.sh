@@ -1,4 +1,5 @@
-# What the counting scripts share: BLAKE3's portable C by two compilers, and the counting of a program's calls. $top is set before.
+# What the counting scripts share: BLAKE3's portable C by two compilers, and the counting of a program's calls. $top is set before, and
+# beside_c=no by a script that compares with no C, and so wants no sources of it.
 # shellcheck shell=sh disable=SC2034,SC2154
 # shellcheck source=shell/common.sh
 . "$top/shell/common.sh"
@@ -140,5 +141,5 @@ keyed=
 find_kit
 one_at_a_time
 make_work
-find_sources
+[ "${beside_c-yes}" = no ] || find_sources
 find_compilers

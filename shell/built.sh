@@ -2,9 +2,9 @@
 # Wants top, the repository.
 # shellcheck shell=sh disable=SC2154
 
-# sum_of SOURCE..: one sum over the sources, files and folders of the repository, wherever it lies
+# sum_of SOURCE..: the time, and behind it one sum over the sources, files and folders of the repository, wherever it lies
 sum_of() {
-    (cd "$top" && find "$@" -type f -print0 | LC_ALL=C sort -z | xargs -0 sha256sum | sha256sum)
+    echo "$(date +@%s.%N) $(cd "$top" && find "$@" -type f -print0 | LC_ALL=C sort -z | xargs -0 sha256sum | sha256sum)"
 }
 
 # is_built PROGRAM SOURCE..: whether the program is there and no source has changed since: none is newer, or all have the sum that was kept beside the
@@ -14,13 +14,16 @@ is_built() {
     shift
     [ -f "$program" ] && [ -f "$program.sources" ] || return 1
     [ -n "$(cd "$top" && find "$@" -type f -newer "$program.sources" -print -quit)" ] || return 0
-    [ "$(sum_of "$@")" = "$(cat "$program.sources")" ] || return 1
-    touch -c "$program.sources" 2>/dev/null || :
+    sum_now=$(sum_of "$@")
+    [ "${sum_now#* }" = "$(cat "$program.sources")" ] || return 1
+    touch -c -d "${sum_now%% *}" "$program.sources" 2>/dev/null || :
 }
 
-# was_built PROGRAM SUM: the program is there, and has the sum of its sources, taken before it was built, beside it
+# was_built PROGRAM SUM: the program is there, and has beside it the sum of its sources, which was taken before it was built, with the time of that: a
+# source that was edited meanwhile is newer
 was_built() {
-    echo "$2" >"$top/$1.sources"
+    echo "${2#* }" >"$top/$1.sources"
+    touch -d "${2%% *}" "$top/$1.sources"
 }
 
 # one_at_a_time: until the script ends no other script builds. The lock is on the repository's folder, so that it leaves nothing behind.

@@ -38,7 +38,8 @@ class Scripts(HostTest):
         subprocess.run(["chmod", "-R", "a-w", cls.copy], check=True)
         cls.tools = cls.place / "tools"
         cls.tools.mkdir()
-        for command in ("sh", "readlink", "find", "sha256sum", "xargs", "sort", "cat", "touch", "uname", "mktemp", "rm", "grep", "sed", "head", "tail", "cut", "od"):
+        for command in ("sh", "readlink", "find", "sha256sum", "xargs", "sort", "cat", "touch", "uname", "mktemp", "rm", "grep", "sed", "head", "tail", "cut",
+                        "od", "date"):
             (cls.tools / command).symlink_to(shutil.which(command))
 
     @classmethod
@@ -159,6 +160,23 @@ class Scripts(HostTest):
             self.assertIn(word, ran.stdout)
         self.assertRegex(self.run_script(self.copy / "bin" / "panel", "--version").stdout, rb"^panel \(Cinchcleat\) \d")
         self.assertEqual(self.run_script(self.copy / "bin" / "panel", "more").returncode, 2)
+
+    def test_edited_while_it_is_built(self):
+        """A source that is edited while a build runs is built again by the next command, and then no more: a stand-in for rt edits it once, and counts."""
+        copy = self.folder / "copy"
+        shutil.copytree(self.copy, copy, symlinks=True)
+        subprocess.run(["chmod", "-R", "u+w", copy], check=True)
+        (copy / "target" / "bin" / "panel.sources").unlink()
+        tools = self.folder / "stand-ins"
+        tools.mkdir()
+        (tools / "rt").write_text(f'#!/bin/sh\n[ "$1" != doc ] || {{ echo "{self.folder}/kit/docs/guide"; exit; }}\necho "$@" >>"{self.folder}/ran"\n'
+                                  f'[ -e "{self.folder}/edited" ] || echo "# an edit" >>"{copy}/crates.txt"\n: >"{self.folder}/edited"\nsleep 0.2\n')
+        (tools / "rt").chmod(0o755)
+        for builds in (1, 2, 2):
+            ran = subprocess.run([copy / "bin" / "panel"], stdin=subprocess.DEVNULL, capture_output=True, check=False,
+                                 env={**PLAIN, "PATH": f"{tools}:{PLAIN['PATH']}"})
+            self.assertEqual((ran.returncode, ran.stdout), (0, b"12\n"), ran.stderr)
+            self.assertEqual((self.folder / "ran").read_text(), builds * "check panel\n")
 
 
 @unittest.skipIf(CHECKED, "tried once, without sanitizers")
