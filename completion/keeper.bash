@@ -5,13 +5,13 @@ _keeper() {
     local word=${COMP_WORDS[COMP_CWORD]} before=${COMP_WORDS[COMP_CWORD - 1]} options
     COMPREPLY=()
     if [ "$COMP_CWORD" = 1 ]; then
-        mapfile -t COMPREPLY < <(compgen -W "append root info letter check find verify repair digest help --version -h" -- "$word")
+        mapfile -t COMPREPLY < <(compgen -W "append root info letter check find verify repair digest node help --version -h" -- "$word")
         return
     fi
     case $before in
     --folder | --records-to) mapfile -t COMPREPLY < <(compgen -d -- "$word"); return ;;
     --record | --page | --key) mapfile -t COMPREPLY < <(compgen -f -- "$word"); return ;;
-    --size | --wait) return ;;
+    --size | --wait | --inner) return ;;
     esac
     case ${COMP_WORDS[1]} in
     append) options="--folder --stream --acknowledge --keep-records --wait --quiet --key" ;;
@@ -23,6 +23,7 @@ _keeper() {
     verify) options="--records --quiet --key" ;;
     repair) options="--wait --key" ;;
     digest) options="--check --quiet --key" ;;
+    node) options="--leaf --inner --record --key" ;;
     *) options= ;;
     esac
     case $word in

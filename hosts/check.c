@@ -1,15 +1,14 @@
 /* keeper check: letters, held to the size and root that were noted. */
 #include <errno.h>
-#include <fcntl.h>
 #include <inttypes.h>
 #include <libgen.h>
 #include <stdio.h>
 #include <stdlib.h>
 #include <string.h>
 #include <sys/stat.h>
-#include <unistd.h>
 #include "answer.h"
 #include "commands.h"
+#include "handed.h"
 #include "input.h"
 #include "keeper.h"
 #include "key.h"
@@ -32,28 +31,16 @@ typedef struct {
 
 /* ---- the record, handed out */
 
-/* A file in the place of the name, or with "new" only where there is none. */
-static void save(const char *path, const uint8_t *bytes, size_t count, int only_new) {
-    int file = strcmp(path, "-") == 0 ? STDOUT_FILENO : open(path, O_WRONLY | O_CREAT | (only_new ? O_EXCL | O_NOFOLLOW : O_TRUNC) | O_CLOEXEC, 0666);
-    fflush(stdout);
-    for (size_t done = 0; file >= 0 && done < count;) {
-        ssize_t part = write(file, bytes + done, count - done);
-        if (part < 0 && errno != EINTR) fail("cannot write %s: %s", path, strerror(errno));
-        if (part > 0) done += (size_t)part;
-    }
-    if (file < 0 || (file != STDOUT_FILENO && close(file) != 0)) fail("cannot write %s: %s", path, strerror(errno));
-}
-
 /* Into the file, or the folder, that was asked for. */
-static void hand_out(const Checks *checks, const char *name, const uint8_t *record, size_t length) {
-    if (checks->asked->record) save(checks->asked->record, record, length, 0);
+static void hand_out_record(const Checks *checks, const char *name, const uint8_t *record, size_t length) {
+    if (checks->asked->record) hand_out(checks->asked->record, record, length);
     if (!checks->asked->records_to) return;
     char *copy = strdup(name ? name : "letter"), ending[] = ".record";
     char *base = copy ? malloc(strlen(copy) + sizeof ending) : NULL;
     if (!base) fail("no memory");
     strcat(strcpy(base, basename(copy)), ending);
     char *path = path_in(checks->asked->records_to, base);
-    save(path, record, length, 1);
+    hand_out_new(path, record, length);
     free(path);
     free(base);
     free(copy);
@@ -100,7 +87,7 @@ static uint32_t judge(Checks *checks, const char *name) {
     uint32_t number = keeper_letter_check(checks->mode, checks->size, checks->top, checks->top_length, letter.bytes, letter.length, &index, &at, &length);
     int has_fields = view_letter(checks->mode, letter.bytes, letter.length, &view) == 0;
     if (checks->asked->count == 2) forget_key();
-    if (number == KEEPER_DONE) hand_out(checks, name, letter.bytes + at, length);
+    if (number == KEEPER_DONE) hand_out_record(checks, name, letter.bytes + at, length);
     if (number == KEEPER_DONE) checks->accepted++;
     else checks->refused++;
     Verdict verdict = {checks->size, checks->asked->words[1], checks->mode->keyed != 0, number, has_fields ? &view : NULL};
@@ -168,21 +155,14 @@ static int check_many(Checks *checks) {
     return checks->unread > 0 ? FAILED : checks->refused > 0 ? REFUSED : DONE;
 }
 
-/* No file that is needed later is written over by mistake. */
-static void demand_free(const char *path) {
-    if (!path) return;
-    demand_no_log(path);
-    demand_no_key(path);
-}
-
 int check(const Asked *asked) {
     Checks checks = {.asked = asked, .mode = mode_taken()};
     if (asked->count < 2) wrong_use("check needs the size and the root that were noted");
     checks.size = number_in(asked->words[0], "log's size");
-    checks.top_length = bytes_in(asked->words[1], checks.top);
+    checks.top_length = bytes_in(asked->words[1], "root", checks.top);
     if (asked->count > 2 && (asked->record || asked->page)) wrong_use("--record and --page go with one letter on standard input");
     if (asked->json && asked->record && strcmp(asked->record, "-") == 0) wrong_use("the record and an object cannot both go to standard output");
-    demand_free(asked->record);
-    demand_free(asked->page);
+    if (asked->record) demand_free(asked->record);
+    if (asked->page) demand_free(asked->page);
     return asked->count == 2 ? check_one(&checks) : check_many(&checks);
 }

@@ -12,5 +12,6 @@ int find(const Asked *asked);
 int verify(const Asked *asked);
 int repair(const Asked *asked);
 int digest(const Asked *asked);
+int node(const Asked *asked);
 
 #endif

@@ -1,5 +1,4 @@
 /* keeper digest: the digests of files of any length, as b3sum lists them; and such lists, held to the files that they name. */
-#include <errno.h>
 #include <inttypes.h>
 #include <stdio.h>
 #include <string.h>
@@ -40,18 +39,12 @@ typedef struct {
     const char *unread; /* NULL where it was read */
 } Taken;
 
-static int is_input(const char *name) { return strcmp(name, "-") == 0; }
-
-static const char *path_of(const char *name) { return is_input(name) ? NULL : name; }
-
-static const char *called(const char *name) { return is_input(name) ? "standard input" : name; }
-
 /* ---- one file */
 
 /* Why it could not be opened or read; where the program was asked to stop, it does. */
-static const char *why_unread(const char *name) {
+static const char *why_not(const char *name) {
     if (stop_asked()) fail("%s came before all was read", stop_asked());
-    return is_input(name) && errno == EBADF ? "it is closed" : strerror(errno);
+    return why_unread(path_of(name));
 }
 
 static void count_bytes(Work *work, uint64_t count) {
@@ -84,11 +77,11 @@ static Taken take_file(Work *work, const char *name) {
     if (is_input(name) && work->input_taken++ > 0) {
         taken.unread = "it was read already";
     } else if (blocks_open(&file, path_of(name)) != 0) {
-        taken.unread = why_unread(name);
+        taken.unread = why_not(name);
     } else {
         work->reading.length = file.length;
         taken.number = digest_blocks(work, taken.digest, &failed);
-        if (failed) taken.unread = why_unread(name);
+        if (failed) taken.unread = why_not(name);
         blocks_close(&file);
     }
     return taken;
@@ -198,7 +191,7 @@ static int check_lines(Work *work, Counted *counted) {
 static void check_list(Work *work, const char *name) {
     Counted counted = {0};
     int unread = lines_open(&list, path_of(name)) != 0 || check_lines(work, &counted) != 0;
-    if (unread) note("cannot read %s: %s", called(name), why_unread(name));
+    if (unread) note("cannot read %s: %s", called(name), why_not(name));
     else if (counted.all == 0) note("%s is empty", called(name));
     if (counted.bad > 0)
         note("%s: %" PRIu64 " of %" PRIu64 " lines are no digest, two spaces and a name; the first of them is line %" PRIu64, called(name),
@@ -233,22 +226,14 @@ static int check_lists(Work *work, char *const *names, size_t count) {
 
 /* ---- the command */
 
-/* Standard input can be read once: whether it is one of those that are named. */
-static int takes_input(char *const *names, size_t count) {
-    int inputs = 0;
-    for (size_t i = 0; i < count; i++) inputs += is_input(names[i]);
-    if (inputs > 1) wrong_use("- is standard input, which is read once, and it is named %d times", inputs);
-    if (inputs > 0) take_standard_input();
-    return inputs > 0;
-}
-
 /* A line goes out as soon as it is there, and whole: so many programs can write to one list. */
 int digest(const Asked *asked) {
     static char input[] = "-", *const alone[] = {input};
     char *const *names = asked->count > 0 ? asked->words : alone;
     size_t count = asked->count > 0 ? (size_t)asked->count : 1;
     Work work = {.quiet = asked->quiet, .on_terminal = isatty(STDOUT_FILENO)};
-    int named = takes_input(names, count), is_key = asked->key && is_input(asked->key);
+    int named = name_input(names, count), is_key = asked->key && is_input(asked->key);
+    if (named) take_standard_input();
     work.input_taken = is_key || (asked->check && named);
     setvbuf(stdout, NULL, _IOLBF, 0);
     watch_for_stop();

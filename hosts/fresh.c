@@ -12,10 +12,7 @@
 #include <unistd.h>
 #include "fresh.h"
 
-enum { LONGEST_PATH = 4096 };
-
-/* The name of its own: the wanted one, and 16 digits that nobody can foresee. */
-static int draft_name(const char *path, char draft[LONGEST_PATH]) {
+int draft_name(const char *path, char draft[LONGEST_PATH]) {
     uint64_t chance;
     if (getrandom(&chance, sizeof chance, 0) != sizeof chance) return -1;
     if (snprintf(draft, LONGEST_PATH, "%s.%016" PRIx64 ".new", path, chance) < LONGEST_PATH) return 0;

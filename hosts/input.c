@@ -1,4 +1,4 @@
-/* Records and letters as they come in: a whole file, the files of a folder. */
+/* Records, letters and stored nodes as they come in: a whole file, the files of a folder. */
 #include <dirent.h>
 #include <errno.h>
 #include <fcntl.h>
@@ -12,12 +12,27 @@
 #include "say.h"
 #include "start.h"
 
-/* ---- whole files */
+/* ---- standard input */
+
+int is_input(const char *name) { return strcmp(name, "-") == 0; }
+
+const char *path_of(const char *name) { return is_input(name) ? NULL : name; }
+
+const char *called(const char *name) { return is_input(name) ? "standard input" : name; }
+
+int name_input(char *const *names, size_t count) {
+    int inputs = 0;
+    for (size_t i = 0; i < count; i++) inputs += is_input(names[i]);
+    if (inputs > 1) wrong_use("- is standard input, which is read once, and it is named %d times", inputs);
+    return inputs > 0;
+}
 
 void take_standard_input(void) {
     static int taken;
     if (taken++ > 0) wrong_use("standard input cannot be the key and something else too: name a file for one of them");
 }
+
+/* ---- whole files */
 
 static _Noreturn void fail_stopped(void) { fail("%s came before all was read: nothing was done", stop_asked()); }
 
@@ -51,10 +66,9 @@ int try_input(Input *input, const char *path, size_t most) {
     return length < 0 ? -1 : 0;
 }
 
-void fail_unread(const char *path) {
-    if (path) fail("cannot read %s: %s", path, strerror(errno));
-    fail("cannot read standard input: %s", errno == EBADF ? "it is closed" : strerror(errno));
-}
+const char *why_unread(const char *path) { return !path && errno == EBADF ? "it is closed" : strerror(errno); }
+
+void fail_unread(const char *path) { fail("cannot read %s: %s", path ? path : "standard input", why_unread(path)); }
 
 void read_input(Input *input, const char *path, size_t most) {
     if (try_input(input, path, most) != 0) fail_unread(path);

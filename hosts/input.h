@@ -1,4 +1,4 @@
-/* Records and letters as they come in: a whole file, the files of a folder. */
+/* Records, letters and stored nodes as they come in: a whole file, the files of a folder. */
 #ifndef INPUT_H
 #define INPUT_H
 #include <stddef.h>
@@ -13,10 +13,11 @@ typedef struct {
     size_t length;
 } Input;
 
-/* A file, or standard input where the path is NULL, up to so many bytes. The first fails, with words; the second returns 0, or -1 with errno, and the
-   third has the words for that. */
+/* A file, or standard input where the path is NULL, up to so many bytes. The first fails, with words; the second returns 0, or -1 with errno, the
+   third has the words for that, and the fourth fails with them. */
 void read_input(Input *input, const char *path, size_t most);
 int try_input(Input *input, const char *path, size_t most);
+const char *why_unread(const char *path);
 _Noreturn void fail_unread(const char *path);
 
 /* The same into bytes of the caller's own, and nowhere else: how many came, or -1 with errno. */
@@ -24,6 +25,13 @@ ssize_t try_bytes(const char *path, uint8_t *bytes, size_t most);
 
 /* Standard input is one thing: where it was the key, it is wrong use to read a record, a letter or a stream from it. */
 void take_standard_input(void);
+
+/* Standard input among the names of files: it is "-", its path is NULL, and in words it is called what it is. It can be read once: whether these name
+   it; twice is wrong use. */
+int is_input(const char *name);
+const char *path_of(const char *name);
+const char *called(const char *name);
+int name_input(char *const *names, size_t count);
 
 /* The paths of a folder's files in the order of their names, as the bytes of the names order them. */
 typedef struct {

@@ -42,10 +42,14 @@ static const char usage[] =
     "keeper repair LOG COPY                 mends a damaged log, after it is copied to COPY\n"
     "keeper digest [FILE..]                 the digest of each file, or of standard input, -, of any length: a line each, as b3sum has it\n"
     "keeper digest --check [LIST..]         takes such lists, and says of each file in them whether it is as listed: OK, or FAILED\n"
+    "keeper node --leaf [RECORD] >NODE      the stored leaf of a record, a file or standard input\n"
+    "keeper node --inner DIGEST >NODE       the stored inner node of a digest, 64 hexadecimal digits\n"
+    "keeper node [NODE..]                   reads stored nodes, files or standard input: kind, digest and record's length, or why it is refused\n"
+    "           --record FILE               hands the record of a leaf out, - to standard output; with one node\n"
     "\n"
     "root, letter and find take --size N: the log as it was at that size. Every command takes --json: one object, as keeper(1) has it.\n"
-    "All that work on a log, a letter or a digest take --key FILE, of exactly 32 bytes, - for standard input: the log is keyed, from its first\n"
-    "append on. info tells of a keyed log without the key too.\n"
+    "All that work on a log, a letter, a digest or a node take --key FILE, of exactly 32 bytes, - for standard input: the log is keyed, from its\n"
+    "first append on. info tells of a keyed log without the key too.\n"
     "append, verify, root --records and digest say on a terminal every second how far they are; with --quiet they do not, and digest --check\n"
     "leaves out the files that are as listed.\n"
     "LOG is a file, made by the first append. Files and folders are appended whole or not at all; of a stream all is kept\n"
@@ -79,6 +83,7 @@ static const struct {
     {"verify", "--records --quiet --key", verify},
     {"repair", "--wait --key", repair},
     {"digest", "--check --quiet --key", digest},
+    {"node", "--leaf --inner --record --key", node},
     {"help", "", help},
     {"--help", "", help},
     {"-h", "", help},

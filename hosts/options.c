@@ -28,9 +28,9 @@ typedef struct {
 static const Option options[] = {
     FLAG("--json", json), FLAG("--help", help), FLAG("-h", help), FLAG("--bytes", bytes), FLAG("--stream", stream),
     FLAG("--acknowledge", acknowledge), FLAG("--keep-records", keep_records), FLAG("--show", show), FLAG("--records", records), FLAG("--quiet", quiet),
-    FLAG("--check", check),
+    FLAG("--check", check), FLAG("--leaf", leaf),
     VALUE("--folder", folder), VALUE("--size", size), VALUE("--record", record), VALUE("--records-to", records_to), VALUE("--page", page),
-    VALUE("--wait", wait), VALUE("--key", key),
+    VALUE("--wait", wait), VALUE("--key", key), VALUE("--inner", inner),
 };
 
 static const Option *option_named(const char *word, size_t length) {
@@ -104,9 +104,9 @@ double seconds_in(const char *word) {
     return seconds;
 }
 
-size_t bytes_in(const char *word, uint8_t bytes[ROOT + 1]) {
+size_t bytes_in(const char *word, const char *what, uint8_t bytes[ROOT + 1]) {
     size_t digits = strlen(word), count = digits / 2 > ROOT ? ROOT + 1 : digits / 2;
-    if (digits % 2 != 0 || strspn(word, "0123456789abcdefABCDEF") != digits) fail("%s is not a root: hexadecimal digits are wanted", word);
+    if (digits % 2 != 0 || strspn(word, "0123456789abcdefABCDEF") != digits) fail("%s is not a %s: hexadecimal digits are wanted", word, what);
     for (size_t i = 0; i < count; i++) {
         char two[3] = {word[2 * i], word[2 * i + 1], 0};
         bytes[i] = (uint8_t)strtoul(two, NULL, 16);

@@ -7,8 +7,8 @@
 /* What was asked for. An option that was not given is 0 or NULL. */
 typedef struct {
     const char *command;
-    int json, help, bytes, stream, acknowledge, keep_records, show, records, quiet, check;
-    const char *folder, *size, *record, *records_to, *page, *wait, *key;
+    int json, help, bytes, stream, acknowledge, keep_records, show, records, quiet, check, leaf;
+    const char *folder, *size, *record, *records_to, *page, *wait, *key, *inner;
     char **words; /* what is no option */
     int count;
     int before_records; /* how many of them stand before --records */
@@ -26,6 +26,6 @@ double seconds_in(const char *word);
 
 /* Hexadecimal digits as bytes, one more than a root has at the most; how many. */
 enum { ROOT = 32 };
-size_t bytes_in(const char *word, uint8_t bytes[ROOT + 1]);
+size_t bytes_in(const char *word, const char *what, uint8_t bytes[ROOT + 1]);
 
 #endif

@@ -356,6 +356,55 @@ uint32_t keeper_letter_check(const keeper_mode *mode, uint64_t size, const uint8
     return KEEPER_DONE;
 }
 
+/* ---- stored nodes */
+
+enum { INNER = 1 + NODE, LEAF = INNER + 4 };
+
+uint32_t keeper_store_leaf(const keeper_mode *mode, const uint8_t *record, size_t record_len, uint8_t *out, size_t out_len, size_t *length) {
+    if (record_len > LONGEST) return KEEPER_RECORD_TOO_LONG;
+    if (out_len < LEAF + record_len) return KEEPER_OUTPUT_TOO_SHORT;
+    out[0] = KEEPER_LEAF;
+    digest(mode, record, record_len, out + 1);
+    put_number(out + INNER, 4, record_len);
+    if (record_len > 0) memcpy(out + LEAF, record, record_len);
+    *length = LEAF + record_len;
+    return KEEPER_DONE;
+}
+
+uint32_t keeper_store_inner(const uint8_t *given, size_t given_len, uint8_t *out, size_t out_len, size_t *length) {
+    if (given_len != NODE) return KEEPER_NOT_A_DIGEST;
+    if (out_len < INNER) return KEEPER_OUTPUT_TOO_SHORT;
+    out[0] = KEEPER_INNER;
+    memcpy(out + 1, given, NODE);
+    *length = INNER;
+    return KEEPER_DONE;
+}
+
+/* What is wrong with a leaf of 37 bytes or more. */
+static uint32_t check_leaf(const keeper_mode *mode, const uint8_t *bytes, size_t bytes_len) {
+    uint8_t worked[NODE];
+    uint64_t stated = number_at(bytes + INNER, 4);
+    if (stated > LONGEST) return KEEPER_RECORD_TOO_LONG;
+    if (bytes_len != LEAF + stated) return KEEPER_NOT_A_NODE;
+    digest(mode, bytes + LEAF, (size_t)stated, worked);
+    return memcmp(worked, bytes + 1, NODE) == 0 ? KEEPER_DONE : KEEPER_OTHER_DIGEST;
+}
+
+uint32_t keeper_read_node(const keeper_mode *mode, const uint8_t *bytes, size_t bytes_len, uint32_t *kind, uint8_t *out, size_t out_len,
+                          size_t *record_at, size_t *record_len) {
+    if (bytes_len < INNER || bytes[0] > KEEPER_LEAF) return KEEPER_NOT_A_NODE;
+    int is_leaf = bytes[0] == KEEPER_LEAF;
+    if (is_leaf ? bytes_len < LEAF : bytes_len != INNER) return KEEPER_NOT_A_NODE;
+    uint32_t number = is_leaf ? check_leaf(mode, bytes, bytes_len) : KEEPER_DONE;
+    if (number == KEEPER_DONE && out_len < NODE) number = KEEPER_OUTPUT_TOO_SHORT;
+    if (number != KEEPER_DONE) return number;
+    *kind = bytes[0];
+    memcpy(out, bytes + 1, NODE);
+    *record_at = is_leaf ? LEAF : 0;
+    *record_len = is_leaf ? bytes_len - LEAF : 0;
+    return KEEPER_DONE;
+}
+
 /* "pair" and "records" want two strings of one digest, which no test has: a letter that is accepted is the log's own here. */
 uint32_t keeper_find(const keeper_mode *mode, uint64_t size, const uint8_t *nodes, size_t nodes_len, const uint8_t *record, size_t record_len,
                      const uint8_t *letter, size_t letter_len, uint8_t *first, size_t first_len, uint8_t *second, size_t second_len, uint32_t *found) {

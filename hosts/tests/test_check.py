@@ -1,4 +1,6 @@
 """keeper check: many letters, a letter in words, records handed out."""
+import os
+import resource
 import unittest
 
 from harness import RECORDS, HostTest, flipped, keeper, letter_of, said_of
@@ -53,9 +55,25 @@ class Check(HostTest):
         self.assertEqual([(out / f"letter{index}.record").read_bytes() for index in range(5)], list(self.records))
         self.ran(2, "File exists", *self.noted, self.letters, "--records-to", out)
         self.assertEqual(self.done(*self.noted, "--record", "-", given=letter_of(self.records, 1)), self.records[1])
-        with open("/dev/full", "wb") as full:
-            ran = keeper(*self.noted, "--record", "/dev/full", given=letter_of(self.records, 1))
-            self.assertEqual((ran.returncode, ran.stdout), (2, b""), full)
+        if os.geteuid() != 0:  # who would replace the device where the program is wrong
+            self.failed("No space left", *self.noted, "--record", "/dev/full", given=letter_of(self.records, 1))
+
+    def test_records_are_whole(self):
+        """Where a record cannot be written whole there is no file, or the one that was there; one that is replaced keeps its mode."""
+        record, kept, out = bytes(16384), self.file("kept", b"kept"), self.folder / "out"
+        out.mkdir()
+        kept.chmod(0o640)
+        noted, letter = ("check", 1, said_of([record])[1].hex()), self.file("letter", letter_of([record], 0))
+        before = self.unchanged(kept)
+        for words, given in ((("--record", kept), letter.read_bytes()), (("--record", self.folder / "new"), letter.read_bytes()),
+                             ((letter, "--records-to", out), b"")):
+            ran = keeper(*noted, *words, given=given, preexec_fn=lambda: resource.setrlimit(resource.RLIMIT_FSIZE, (5000, 5000)))
+            self.assertEqual(ran.returncode, 2)
+            self.assertIn(b"cannot write", ran.stderr)
+            names = sorted(path.name for path in self.folder.iterdir())
+            self.assertEqual((self.unchanged(kept), names, list(out.iterdir())), (before, ["kept", "letter", "letters", "out"], []))
+        self.done(*noted, "--record", kept, given=letter.read_bytes())
+        self.assertEqual((kept.read_bytes(), kept.stat().st_mode & 0o7777), (record, 0o640))
 
     def test_no_log_is_written_over(self):
         """A log named for the record or the page by mistake, or what is kept beside it, stays."""

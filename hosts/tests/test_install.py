@@ -86,10 +86,11 @@ class Manual(HostTest):
     @unittest.skipUnless(shutil.which("bash"), "no bash here")
     def test_completion(self):
         script = 'source "$0"; '
-        for words in ("keeper ver", "keeper check 1 2 --p", "keeper root log --r", "keeper root --records --st", "keeper dig", "keeper digest --ch"):
+        for words in ("keeper ver", "keeper check 1 2 --p", "keeper root log --r", "keeper root --records --st", "keeper dig", "keeper digest --ch",
+                      "keeper no", "keeper node --l", "keeper node --in", "keeper node --inner 0"):
             script += f'COMP_WORDS=({words}); COMP_CWORD={len(words.split()) - 1}; _keeper; echo "${{COMPREPLY[@]}}"; '
         ran = subprocess.run(["bash", "-c", script, TOP / "completion" / "keeper.bash"], capture_output=True, check=True)
-        self.assertEqual(ran.stdout, b"verify\n--page\n--records\n--stream\ndigest\n--check\n")
+        self.assertEqual(ran.stdout, b"verify\n--page\n--records\n--stream\ndigest\n--check\nnode\n--leaf\n--inner\n\n")
 
 
 if __name__ == "__main__":

@@ -4,6 +4,7 @@ import re
 import unittest
 
 from harness import NODES, RECORDS, TOP, HostTest, digest, flipped, keeper, letter_of, nodes_of, said_of, stream_of
+from rules.stored import stored_leaf  # behind harness, which says where the second program lies
 
 
 class Objects(HostTest):
@@ -54,6 +55,10 @@ class Objects(HostTest):
         self.assertEqual((answer["appended"], answer["first_index"], answer["last_index"], answer["size"], answer["hashes"]), (1, 5, 5, 10, 2))
         answer = self.object(0, "digest", given=RECORDS[5])
         self.assertEqual(answer["files"], [{"file": "-", "length": len(RECORDS[5]), "digest": digest(RECORDS[5]).hex()}])
+        answer = self.object(0, "node", "--leaf", given=RECORDS[5])
+        self.assertEqual((answer["digest"], bytes.fromhex(answer["node"])), (digest(RECORDS[5]).hex(), stored_leaf(RECORDS[5])))
+        answer = self.object(0, "node", given=stored_leaf(RECORDS[5]))["nodes"][0]
+        self.assertEqual((answer["kind"], answer["digest"], bytes.fromhex(answer["record"])), ("leaf", digest(RECORDS[5]).hex(), RECORDS[5]))
         self.assertIn("usage", self.object(0, "help"))
         self.assertRegex(self.object(0, "--version")["version"], r"^\d+\.\d+")
 

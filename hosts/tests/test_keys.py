@@ -6,6 +6,7 @@ import threading
 import unittest
 
 from harness import COPY, NODE, NODES, PAGE, RECORDS, TOP, HostTest, digest_by, flipped, keeper, letter_of, plain_root, said_of, sealed, stream_of
+from rules.stored import stored_leaf  # behind harness, which says where the second program lies
 
 # bytes that a shell or a line would trip over, and none that stands in a log by chance
 OURS = b"\0\n\\%\xff '\"" + bytes((73 * place + 19) % 256 for place in range(24))
@@ -57,7 +58,9 @@ class KeyFiles(KeyTest):
                     self.refused(24, *words, "--key", key, given=given)
                 for words in (("check", self.size, self.top.hex()), ("check", 2, self.top.hex()), ("check", self.size, "00"), ("letter", self.log, 99),
                               ("root", self.log, "--size", 2), ("root", self.folder / "missing"), ("check", self.size, self.top.hex(), self.letter),
-                              ("digest", self.record), ("digest",), ("digest", "--check"), ("digest", self.folder / "missing")):
+                              ("digest", self.record), ("digest",), ("digest", "--check"), ("digest", self.folder / "missing"),
+                              ("node",), ("node", "--leaf"), ("node", "--inner", "00"),
+                              ("node", self.folder / "missing", "--record", self.folder / "out")):
                     self.refused(24, *words, "--key", key, given=self.letter.read_bytes())
                 self.refused(24, "append", self.log, "--key", key, given=bytes(20000))
                 self.assertEqual(self.looked_at(), before)
@@ -70,6 +73,7 @@ class KeyFiles(KeyTest):
             self.failed(f"cannot read the key, {key}: {word}", "root", self.log, "--key", key)
             self.failed("cannot read the key", "append", self.folder / "new", "--key", key, given=b"x")
             self.failed("cannot read the key", "digest", self.record, "--key", key)
+            self.failed("cannot read the key", "node", "--leaf", self.record, "--key", key)
         self.assertFalse((self.folder / "new").exists())
 
     def test_fifo_and_link(self):
@@ -98,7 +102,7 @@ class KeyFiles(KeyTest):
         before = self.looked_at()
         for words in (("append", self.log), ("append", self.folder / "new"), ("append", self.log, "--stream"), ("append", self.folder / "new", "--stream"),
                       ("root", self.log, "--records", "--stream"), ("root", "--records", "--stream"), ("letter", self.log, 1),
-                      ("check", self.size, self.top.hex())):
+                      ("check", self.size, self.top.hex()), ("node",), ("node", "--leaf")):
             self.failed("standard input cannot be the key and something else too", *words, "--key", "-", given=OURS)
         self.assertEqual(self.looked_at(), before)
 
@@ -255,11 +259,13 @@ class Secret(KeyTest):
     def test_nowhere(self):
         """The key is in nothing that is written, raw or in digits, whole or a part: not by any command, nor in any file but its own."""
         said = []
+        self.leaf = self.file("leaf", stored_leaf(self.records[1], digest_by(OURS)))
         for key in (self.key, self.other, self.file("long", OURS + b"\n"), "-"):
             for form in ((), ("--json",)):
                 words = [("append", self.log, "--keep-records"), *(words for words, _ in self.every()),
                          ("check", self.size, self.top.hex(), "--show", "--page", self.folder / "page"), ("check", self.size, self.top.hex(), self.letter),
-                         ("digest", self.record, self.letter, self.folder / "missing"), ("digest", "--check", self.record)]
+                         ("digest", self.record, self.letter, self.folder / "missing"), ("digest", "--check", self.record),
+                         ("node", "--leaf", self.record), ("node", self.leaf, self.letter), ("node", self.leaf, "--record", self.folder / "out")]
                 for each in words:
                     ran = keeper(*each, "--key", key, *form, given=OURS if key == "-" else self.letter.read_bytes())
                     said += [ran.stdout, ran.stderr]

@@ -84,6 +84,8 @@ class Unwritten(HostTest):
             self.full(*words, "--records", "--stream", given=stream_of(RECORDS[:3]))
         for words in (("digest", self.log, self.log), ("digest",), ("digest", "--json")):
             self.full(*words, given=RECORDS[1])
+        for words in (("node", "--leaf"), ("node", "--leaf", "--json"), ("node", "--inner", "00" * 32), ("node", self.log, self.log)):
+            self.full(*words, given=RECORDS[1])
         self.full("letter", self.log, 1, given=RECORDS[1])
         self.full("check", size, top.hex(), given=letter_of(RECORDS[:3], 1))
         self.full("check", size, top.hex(), "--json", given=letter_of(RECORDS[:3], 1))

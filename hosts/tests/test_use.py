@@ -15,14 +15,17 @@ class WrongUse(HostTest):
                       ("root", self.log, "--stream"), ("root", self.log, "file", "--records"), ("--stream",), ("append", self.log, "--quiet=1"),
                       ("info", self.log, "--quiet"), ("letter", self.log, "0", "--quiet"), ("repair", self.log, "copy", "--quiet"),
                       ("digest", "--records", self.log), ("digest", self.log, "--check=1"), ("digest", "-", "-"), ("digest", self.log, "-c"),
-                      ("verify", self.log, "--check")):
+                      ("verify", self.log, "--check"), ("node", "-", "-"), ("node", "--leaf", "--inner", "00"), ("node", "--leaf", "file", "file"),
+                      ("node", "--leaf", "--record", "file"), ("node", "--inner", "00", "file"), ("node", "file", "file", "--record", "x"),
+                      ("node", self.log, "--check"), ("root", self.log, "--leaf")):
             ran = keeper(*words)
             self.assertEqual(ran.returncode, 2, words)
             self.assertIn(b"wrong use", ran.stderr)
         for size in ("-1", "x", "", "1 ", str(2**64), "0x1"):
             self.ran(2, "", "check", "--", size, "00")
         for top in ("0", "0g", "xyz!"):
-            self.failed("hexadecimal", "check", 1, top)
+            self.failed("is not a root: hexadecimal", "check", 1, top)
+            self.failed("is not a digest: hexadecimal", "node", "--inner", top)
         self.failed("no number of seconds", "append", self.log, "--wait", "soon", given=b"x")
         self.holds(RECORDS[:1])
 
@@ -34,7 +37,8 @@ class WrongUse(HostTest):
     def test_files(self):
         for words in (("root", self.log), ("letter", self.log, 0), ("append", self.folder / "no" / "log"), ("root", self.folder), ("info", self.log),
                       ("root", self.log, "--records"), ("root", self.log, "--records", self.log), ("root", "--records", self.log),
-                      ("verify", self.log), ("repair", self.log, self.folder / "copy"), ("digest", self.log), ("digest", "--check", self.log)):
+                      ("verify", self.log), ("repair", self.log, self.folder / "copy"), ("digest", self.log), ("digest", "--check", self.log),
+                      ("node", self.log), ("node", "--leaf", self.log), ("node", self.log, "--record", self.folder / "record")):
             self.failed("keeper: ", *words)
         self.assertEqual(list(self.folder.iterdir()), [])
 

@@ -1,7 +1,7 @@
 // The tree over the chunks, and the digest in a mode.
 ghost use mathlib.Core.Path.{_≡_};
 ghost use mathlib.Core.List.{_++_};
-ghost use Prim.Native.Nat.{_+_, _*_, _^_, _<_, _≤_};
+ghost use Prim.Native.Nat.{_*_, _^_, _<_, _≤_};
 ghost use lib.ListN.{length};
 ghost use Rattle.blake.specs.Blake.{parented, treed, treed4, digested};
 ghost use Rattle.blake.specs.Steps.{Room};

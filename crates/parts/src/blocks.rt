@@ -1,7 +1,7 @@
 // Blocks: bytes into one, and one that goes on when bytes follow.
 ghost use mathlib.Core.Path.{_≡_};
 ghost use mathlib.Core.List.{_++_};
-ghost use Prim.Native.Nat.{_+_, _<_, _≤_};
+ghost use Prim.Native.Nat.{_+_, _≤_};
 ghost use lib.ListN.{length, take};
 ghost use Rattle.chunks.specs.Chunks.{startFlag};
 ghost use Rattle.parts_rule.specs.Run.{blockNumber};
