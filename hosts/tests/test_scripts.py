@@ -38,8 +38,8 @@ class Scripts(HostTest):
         subprocess.run(["chmod", "-R", "a-w", cls.copy], check=True)
         cls.tools = cls.place / "tools"
         cls.tools.mkdir()
-        for command in ("sh", "readlink", "find", "sha256sum", "xargs", "sort", "cat", "touch", "uname", "mktemp", "rm", "grep", "sed", "head", "tail", "cut",
-                        "od", "date"):
+        for command in ("sh", "readlink", "find", "sha256sum", "xargs", "sort", "cat", "touch", "uname", "mktemp", "rm", "grep", "sed", "head", "tail",
+                        "cut", "od", "date"):
             (cls.tools / command).symlink_to(shutil.which(command))
 
     @classmethod
@@ -162,7 +162,7 @@ class Scripts(HostTest):
         self.assertEqual(self.run_script(self.copy / "bin" / "panel", "more").returncode, 2)
 
     def test_edited_while_it_is_built(self):
-        """A source that is edited while a build runs is built again by the next command, and then no more: a stand-in for rt edits it once, and counts."""
+        """A source that is edited while a build runs is built again by the next command, and then no more: a stand-in for rt edits it and counts."""
         copy = self.folder / "copy"
         shutil.copytree(self.copy, copy, symlinks=True)
         subprocess.run(["chmod", "-R", "u+w", copy], check=True)
