@@ -3,7 +3,6 @@ use mathlib.Core.Logic.{_≢_}
 use mathlib.Core.Path.{_≡_, refl, sym, ap, _∙_}
 use mathlib.Core.List.{List}
 use Prim.Native.Nat.{ℕ, _≤_, _<_}
-use native.Mathlib.Omega.{arith}
 use lib.ListN.{length}
 use borrow.Author.Needs.{needs}
 use Rattle.digest.specs.Digest.{digestIn}
@@ -13,11 +12,9 @@ use Rattle.wire.specs.Slices.{part, written}
 use Rattle.wire.specs.declared.Written.{Written}
 use Rattle.wire.specs.Writers.{WriteOutcome, wrote}
 use Rattle.wire.proofs.Parts.{part-whole}
-use Rattle.stored.specs.declared.Node.{Node}
-use Rattle.stored.specs.declared.Node.the-variants.{Inner, Leaf, NotANode, RecordTooLong, OtherDigest}
 use Rattle.stored.specs.declared.Reading.{Reading}
 use Rattle.stored_writer.specs.Outcome.{innerOutcome}
-use Rattle.stored.specs.Read.{ReadOutcome, innerRead, valuesOf, readOff, readOutcome}
+use Rattle.stored.specs.Read.{ReadOutcome, readOff, readOutcome}
 use Rattle.stored.proofs.Ends.{read-32}
 use Rattle.keeper.specs.Calls.{outOrder, writeLeft, writeCall}
 use Rattle.keeper.specs.Nodes.{storeInnerCall, ReadLeft, readLeft, kindNumber, readWritten, readCall}
@@ -45,15 +42,6 @@ module _ (digest out : List ℕ) (old : ℕ) (r : Written) (x d : List ℕ) (h :
   inner-done z = behind (write-done (innerOutcome digest out) old r x read-whole z)
 
 -- ---- Read
-
--- an answer with the number 0 whose record starts at 0 is that of an inner node
-pub of-inner : (node : Node) (digest : List ℕ) → valuesOf node digest .number ≡ 0 → valuesOf node digest .start ≡ 0
-    → valuesOf node digest ≡ innerRead digest
-of-inner Inner digest z s = refl
-of-inner (Leaf n) digest z s = absurd (omega arith)
-of-inner NotANode digest z s = absurd (omega arith)
-of-inner RecordTooLong digest z s = absurd (omega arith)
-of-inner OtherDigest digest z s = absurd (omega arith)
 
 module _ (mode bs : List ℕ) (oldKind : ℕ) (out : List ℕ) (oldStart oldLength : ℕ) (r : Reading)
     (e : readOff r ≡ readOutcome (digestIn mode) bs) where

@@ -29,6 +29,10 @@ module _ (digest : List ℕ → List ℕ) (bs : List ℕ) where
   pub leaf-true : readOutcome digest bs .kind ≡ leaf → readOutcome digest bs .digest ≡ digest (recordIn bs)
   leaf-true k = let n = of-leaf digest bs k in rw (n .outcome) (sym (n .true-digest))
 
+  -- bytes that are read as a leaf are the leaf of their record, as it is written
+  pub leaf-own : Bytes bs → readOutcome digest bs .kind ≡ leaf → leafBytes digest (recordIn bs) ≡ bs
+  leaf-own b k = let n = of-leaf digest bs k in leaf-whole bs b (n .flag) (n .exact) digest (n .true-digest)
+
 -- ---- a record that was logged, and a leaf that names its digest
 
 -- the leaf is the record's own, as it is written; or the record in it is another, and the two are two strings with one digest. So a leaf whose
@@ -36,11 +40,7 @@ module _ (digest : List ℕ → List ℕ) (bs : List ℕ) where
 pub edited-leaf : (digest : List ℕ → List ℕ) (rec bs : List ℕ) → Bytes bs
     → readOutcome digest bs .kind ≡ leaf → readOutcome digest bs .digest ≡ digest rec
     → (bs ≡ leafBytes digest rec) ⊎ ((recordIn bs ≢ rec) × (digest (recordIn bs) ≡ digest rec))
-unfolding recordIn
-edited-leaf digest rec bs b k d =
-    let n = of-leaf digest bs k in
-    let w = leaf-whole bs b (n .flag) (n .exact) digest (sym (n .true-digest)) in
-    elim (List-discrete ℕ-discrete (recordIn bs) rec) [
-      | yes e ↦ inl (sym w ∙ ap (leafBytes digest) e)
-      | no o ↦ inr (o, sym (leaf-true digest bs k) ∙ d)
-    ]
+edited-leaf digest rec bs b k d = elim (List-discrete ℕ-discrete (recordIn bs) rec) [
+  | yes e ↦ inl (sym (leaf-own digest bs b k) ∙ ap (leafBytes digest) e)
+  | no o ↦ inr (o, sym (leaf-true digest bs k) ∙ d)
+]

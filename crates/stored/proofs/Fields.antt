@@ -61,13 +61,13 @@ module _ (bs : List ℕ) where
   inner-whole f e = rw (← f, ← head) (whole 33 e)
 
   pub leaf-whole : Bytes bs → flagIn bs ≡ 1 → length bs ≡ 37 + statedIn bs
-      → (digest : List ℕ → List ℕ) → namedIn bs ≡ digest (part 37 (statedIn bs) bs) → leafBytes digest (part 37 (statedIn bs) bs) ≡ bs
-  unfolding statedIn leafBytes
+      → (digest : List ℕ → List ℕ) → digest (recordIn bs) ≡ namedIn bs → leafBytes digest (recordIn bs) ≡ bs
+  unfolding statedIn recordIn leafBytes
   leaf-whole b f e digest h =
       let n : ℕ = statedIn bs in
       let p : part 0 (37 + n) bs ≡ flagIn bs ∷ namedIn bs ++ part 33 4 bs ++ part 37 n bs
       = part-add 0 37 n bs ∙ rw (part-add 0 33 4 bs, head) in
-      rw (← h, ← f, part-length, be-part 33 4 bs b) (sym p ∙ whole (37 + n) e)
+      rw (h, ← f, part-length, be-part 33 4 bs b) (sym p ∙ whole (37 + n) e)
 
 -- ---- compared
 

@@ -14,7 +14,8 @@ use Rattle.stored.specs.Nodes.{innerBytes, leafBytes, statedIn, recordIn}
 use Rattle.wire.specs.Writers.{WriteOutcome, writeRefused, writeDone}
 use Rattle.stored_writer.specs.Outcome.{leafOrder, innerOrder, leafOutcome, innerOutcome}
 use Rattle.stored.specs.Read.{inner, leaf, innerRead, leafRead, readOutcome}
-use Rattle.stored.proofs.Fields.{inner-digest, leaf-length, leaf-digest, leaf-stated, leaf-record, inner-whole, leaf-whole}
+use Rattle.stored.proofs.Fields.{inner-digest, leaf-length, leaf-digest, leaf-stated, leaf-record, inner-whole}
+use Rattle.stored.proofs.Edited.{leaf-own}
 use Rattle.stored.proofs.Ends.{inner-node, leaf-node, of-inner, of-leaf}
 
 -- the first bytes of the output buffer, as many as the writer reports
@@ -75,6 +76,6 @@ pub leaf-again : (digest : List ℕ → List ℕ) (bs out : List ℕ) → Bytes 
 unfolding leafOutcome recordIn
 leaf-again digest bs out b k l =
     let n = of-leaf digest bs k in
-    let e : leafBytes digest (recordIn bs) ≡ bs = leaf-whole bs b (n .flag) (n .exact) digest (sym (n .true-digest)) in
+    let e = leaf-own digest bs b k in
     let m : length (recordIn bs) ≡ statedIn bs = part-length 37 (statedIn bs) bs in
     sym (passes (writeRefused out) (leafOrder (recordIn bs) out) _ (ap (λ (x : List ℕ). writeDone x out) (sym e)) (search needs))

@@ -3,8 +3,8 @@ use mathlib.Core.Path.{_≡_, refl, ap}
 use native.Mathlib.Omega.{arith}
 use Rattle.stored.specs.declared.Node.{Node}
 use Rattle.stored.specs.Read.{innerRead, leafRead, valuesOf, readOff}
-use Rattle.stored.proofs.Else.{no-leaf}
-use Rattle.keeper.proofs.Nodes.{of-inner, read-refused, read-short, read-done}
+use Rattle.stored.proofs.Else.{else-done}
+use Rattle.keeper.proofs.Nodes.{read-refused, read-short, read-done}
 use borrow.Author.Needs.{needs}
 use Rattle.keeper.proofs.keeper_read_node.Statement.{statement}
 use Rattle.keeper.proofs.keeper_read_node.Tie as tie
@@ -29,7 +29,7 @@ returns-3 c =
     let a = b .before .before .before .before .args in
     let r = b .before .read-node in
     let z : readOff (r .result) .number ≡ 0 = omega (arith, b .number-of .ensures) in
-    let i = of-inner (r .result .node) (r .result .digest) z (no-leaf (r .result .node) (r .result .digest) (c .match .keys2) .0) in
+    let i = else-done (r .result .node) (r .result .digest) (c .match .keys2) z in
     read-done (a .mode .now) (a .bytes .now) (a .kind .now) (a .out .now) (a .record-at .now) (a .record-len .now) (r .result) (r .ensures)
     (innerRead (r .result .digest)) _ i refl (omega arith) (c .before .before .before .write-digest .ensures)
 
