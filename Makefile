@@ -1,5 +1,5 @@
-# make: builds the host and the panel's program. make install PREFIX= DESTDIR=: puts them, the library, the manual and completion there. make check: tries
-# the host. All of it is in scripts; nothing here installs a package.
+# make: builds the host and the panel's program. make library: builds the library for C alone. make install PREFIX= DESTDIR=: puts them, the library,
+# the manual and completion there. make check: tries the host. All of it is in scripts; nothing here installs a package.
 PREFIX ?= /usr/local
 DESTDIR ?=
 
@@ -10,7 +10,10 @@ all:
 install:
 	PREFIX="$(PREFIX)" DESTDIR="$(DESTDIR)" hosts/install.sh
 
+library:
+	shell/library.sh
+
 check:
 	hosts/test.sh
 
-.PHONY: all install check
+.PHONY: all install library check

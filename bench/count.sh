@@ -115,13 +115,18 @@ counted() {
     echo "clang: $($clang --version | head -n 1), the kit's"
 }
 
-# counted_by_both PROGRAM SOURCE: a program that calls the keeper and the digest alone. The two archives have names in common: of the
-# digest's only its two calls stay visible.
-counted_by_both() {
+# keeper_and_digest: the keeper's archive, and the digest alone beside it in digest.o. The two archives have names in common: of the digest's only its
+# two calls stay visible.
+keeper_and_digest() {
     static_library digest_c
     "${prefix}ld" -r -o "$work/digest-all.o" --whole-archive "$archive"
     "${prefix}objcopy" --keep-global-symbol=digest_c_of --keep-global-symbol=digest_c_pair "$work/digest-all.o" "$work/digest.o"
     static_library keeper
+}
+
+# counted_by_both PROGRAM SOURCE: a program that calls the keeper and the digest alone
+counted_by_both() {
+    keeper_and_digest
     counted "$1" -I"$top/include" -I"$top/crates/digest_c" "$2" "$work/digest.o" "$archive"
 }
 

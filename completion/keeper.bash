@@ -5,11 +5,11 @@ _keeper() {
     local word=${COMP_WORDS[COMP_CWORD]} before=${COMP_WORDS[COMP_CWORD - 1]} options
     COMPREPLY=()
     if [ "$COMP_CWORD" = 1 ]; then
-        mapfile -t COMPREPLY < <(compgen -W "append root info letter check find verify repair digest node help --version -h" -- "$word")
+        mapfile -t COMPREPLY < <(compgen -W "append root info letter passage check find verify repair digest node help --version -h" -- "$word")
         return
     fi
     case $before in
-    --folder | --records-to) mapfile -t COMPREPLY < <(compgen -d -- "$word"); return ;;
+    --folder | --records-to | --to) mapfile -t COMPREPLY < <(compgen -d -- "$word"); return ;;
     --record | --page | --key) mapfile -t COMPREPLY < <(compgen -f -- "$word"); return ;;
     --size | --wait | --inner) return ;;
     esac
@@ -18,8 +18,9 @@ _keeper() {
     root) options="--size --bytes --records --folder --stream --quiet --key" ;;
     info) options="--key" ;;
     letter) options="--size --record --key" ;;
-    check) options="--show --record --records-to --page --key" ;;
-    find) options="--size --key" ;;
+    passage) options="--size --records --key" ;;
+    check) options="--show --record --records-to --to --page --key" ;;
+    find) options="--size --records --key" ;;
     verify) options="--records --quiet --key" ;;
     repair) options="--wait --key" ;;
     digest) options="--check --quiet --key" ;;
@@ -35,7 +36,7 @@ _keeper() {
 _panel() {
     case ${COMP_WORDS[COMP_CWORD - 1]} in
     --key) mapfile -t COMPREPLY < <(compgen -f -- "${COMP_WORDS[COMP_CWORD]}") ;;
-    *) mapfile -t COMPREPLY < <(compgen -W "--key -h --version" -- "${COMP_WORDS[COMP_CWORD]}") ;;
+    *) mapfile -t COMPREPLY < <(compgen -W "--key --passage -h --version" -- "${COMP_WORDS[COMP_CWORD]}") ;;
     esac
 }
 

@@ -1,4 +1,4 @@
-/* keeper info, letter and find: what is asked of a log. */
+/* keeper info and letter: what is asked of a log. */
 #include <inttypes.h>
 #include <stdio.h>
 #include <string.h>
@@ -12,7 +12,6 @@
 #include "store.h"
 #include "trusted.h"
 
-enum { PAIR = 64 };
 static Input record, written;
 
 /* ---- info */
@@ -116,38 +115,6 @@ int write_letter(const Asked *asked) {
     put_number("index", index);
     put_record(record.bytes, record.length);
     put_bytes("letter", written.bytes, written.length);
-    store_close(&log);
-    return DONE;
-}
-
-/* ---- find */
-
-static void tell_pair(const uint8_t ours[PAIR], const uint8_t theirs[PAIR]) {
-    char digits[2][2 * PAIR + 1];
-    hex_of(ours, PAIR, digits[0]);
-    hex_of(theirs, PAIR, digits[1]);
-    line("pair: two strings of 64 bytes differ and have one digest, the log's and the letter's\n%s\n%s", digits[0], digits[1]);
-    put_text("first", digits[0]);
-    put_text("second", digits[1]);
-}
-
-int find(const Asked *asked) {
-    Store log;
-    uint8_t ours[PAIR], theirs[PAIR];
-    uint32_t found;
-    demand_words(asked, 3, 3);
-    store_open(&log, asked->words[0], TO_READ, 0);
-    uint64_t size = size_asked(&log, asked);
-    read_input(&record, asked->words[1], LONGEST_RECORD + 1);
-    read_input(&written, asked->words[2], LONGEST_LETTER + 1);
-    uint32_t number = keeper_find(log.mode, size, store_nodes(&log), lent(&log), record.bytes, record.length, written.bytes, written.length, ours, PAIR,
-                                  theirs, PAIR, &found);
-    if (number != KEEPER_DONE) return refused("find", number);
-    put_number("size", size);
-    put_text("found", found == KEEPER_SAME ? "same" : found == KEEPER_RECORDS ? "records" : "pair");
-    if (found == KEEPER_SAME) line("same: the letter is the log's own");
-    if (found == KEEPER_RECORDS) line("records: the record and the letter's differ and have one digest");
-    if (found == KEEPER_PAIR) tell_pair(ours, theirs);
     store_close(&log);
     return DONE;
 }

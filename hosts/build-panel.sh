@@ -1,5 +1,5 @@
 #!/bin/sh
-# hosts/build-panel.sh: proves and builds the panel's two programs, for plain logs and for keyed ones, where a source is newer.
+# hosts/build-panel.sh: proves and builds the panel's three programs, for plain logs, for keyed ones and for passages, where a source is newer.
 # Exit status: 0, or 2 where one could not be built.
 set -eu
 here=$(readlink -f -- "$0")
@@ -8,3 +8,4 @@ top=${here%/*/*}
 . "$top/shell/program.sh"
 build panel
 build keyed_panel
+build passage_panel

@@ -1,4 +1,4 @@
-/* keeper check: letters, held to the size and root that were noted. */
+/* keeper check: letters of both kinds, held to the size and root that were noted. */
 #include <errno.h>
 #include <inttypes.h>
 #include <libgen.h>
@@ -15,10 +15,11 @@
 #include "numbers.h"
 #include "page.h"
 #include "say.h"
-#include "view.h"
+#include "shown.h"
 
-static Input letter;
-static View view;
+static Checked now;
+static const Letter *const letter = &now.letter;
+static const Judged *const judged = &now.judged;
 
 /* What is trusted, and how many letters were accepted, refused, and not read. */
 typedef struct {
@@ -29,102 +30,109 @@ typedef struct {
     size_t top_length;
 } Checks;
 
-/* ---- the record, handed out */
+/* ---- the records, handed out */
 
-/* Into the file, or the folder, that was asked for. */
-static void hand_out_record(const Checks *checks, const char *name, const uint8_t *record, size_t length) {
-    if (checks->asked->record) hand_out(checks->asked->record, record, length);
-    if (!checks->asked->records_to) return;
-    char *copy = strdup(name ? name : "letter"), ending[] = ".record";
-    char *base = copy ? malloc(strlen(copy) + sizeof ending) : NULL;
-    if (!base) fail("no memory");
-    strcat(strcpy(base, basename(copy)), ending);
-    char *path = path_in(checks->asked->records_to, base);
-    hand_out_new(path, record, length);
+/* Under the name of the letter, which must not be taken: NAME.record, and of a passage NAME.INDEX.record. */
+static void hand_out_by_name(const char *folder, const char *from, size_t k) {
+    static const char ending[] = ".record";
+    char index[24] = "", *copy = strdup(is_input(from) ? "letter" : from);
+    char *name = copy ? malloc(strlen(copy) + sizeof index + sizeof ending) : NULL;
+    if (!name) fail("no memory");
+    if (is_passage(letter)) snprintf(index, sizeof index, ".%" PRIu64, judged->indexes[k]);
+    strcat(strcat(strcpy(name, basename(copy)), index), ending);
+    char *path = path_in(folder, name);
+    hand_out_new(path, letter->bytes + judged->starts[k], (size_t)judged->lengths[k]);
     free(path);
-    free(base);
+    free(name);
     free(copy);
 }
 
-/* ---- words */
-
-/* The letter in words: the record as text where it is text, else in hexadecimal digits. */
-static void show(int accepted) {
-    const View *shown = &view;
-    line("  %ssize %" PRIu64 ", index %" PRIu64 ", a record of %zu bytes, %u items", accepted ? "" : "it says, and was refused: ", shown->size,
-         shown->index, shown->length, shown->items);
-    if (!shown->record) return;
-    int text = is_text(shown->record, shown->length);
-    line("  record, as %s:", text ? "text" : "hexadecimal digits");
-    for (size_t from = 0, to; from < shown->length; from = to) {
-        const uint8_t *end = text ? memchr(shown->record + from, '\n', shown->length - from) : NULL;
-        char digits[2 * NODE + 1];
-        to = end ? (size_t)(end - shown->record) + 1 : text ? shown->length : from + NODE < shown->length ? from + NODE : shown->length;
-        if (!text) hex_of(shown->record + from, to - from, digits);
-        if (text) line("    %.*s", (int)(to - from - (end ? 1 : 0)), (const char *)shown->record + from);
-        else line("    %s", digits);
-    }
+/* INDEX.record, in the place of a file that is there. */
+static void hand_out_by_index(const char *folder, const char *from, size_t k) {
+    char name[32];
+    snprintf(name, sizeof name, "%" PRIu64 ".record", judged->indexes[k]);
+    char *path = path_in(folder, name);
+    demand_free_of(path, from, "the letter");
+    hand_out(path, letter->bytes + judged->starts[k], (size_t)judged->lengths[k]);
+    free(path);
 }
 
-static void put_letter(const char *name, uint32_t number) {
-    if (name) put_text("file", name);
-    put_flag("accepted", number == KEEPER_DONE);
-    if (number != KEEPER_DONE) put_refusal(number);
-    if (letter.length < LETTER_HEAD) return;
-    put_number("letter_size", view.size);
-    put_number("index", view.index);
-    if (!view.record) return;
-    put_number("items", view.items);
-    put_record(view.record, view.length);
+/* Whether one record is wanted, and an accepted letter has more: nothing is handed out then. */
+static int has_too_many(const Checks *checks) { return checks->asked->record && is_accepted(&now) && judged->count > 1; }
+
+/* Into the file, or the folders, that were asked for. */
+static void hand_out_records(const Checks *checks, const char *from) {
+    const Asked *asked = checks->asked;
+    if (asked->record) hand_out(asked->record, letter->bytes + judged->starts[0], (size_t)judged->lengths[0]);
+    for (size_t k = 0; k < judged->count; k++) {
+        if (asked->records_to) hand_out_by_name(asked->records_to, from, k);
+        if (asked->to) hand_out_by_index(asked->to, from, k);
+    }
 }
 
 /* ---- one letter */
 
+static void write_page(const Checks *checks, int has_fields) {
+    Verdict verdict = {checks->size, checks->asked->words[1], checks->mode->keyed != 0, judged->number, has_fields ? &now.view : NULL};
+    if (page_for_hearing(checks->asked->page, &verdict) != 0) fail("cannot write %s: %s", checks->asked->page, strerror(errno));
+}
+
 /* The library's number on the letter that was read. Where it is the one on standard input, the key is not needed again. */
-static uint32_t judge(Checks *checks, const char *name) {
-    uint64_t index;
-    size_t at, length;
-    uint32_t number = keeper_letter_check(checks->mode, checks->size, checks->top, checks->top_length, letter.bytes, letter.length, &index, &at, &length);
-    int has_fields = view_letter(checks->mode, letter.bytes, letter.length, &view) == 0;
+static void judge(Checks *checks, const char *from) {
+    judge_letter(checks->mode, checks->size, checks->top, checks->top_length, letter, &now.judged);
+    int has_fields = !is_passage(letter) && view_letter(checks->mode, letter->bytes, letter->length, &now.view) == 0;
     if (checks->asked->count == 2) forget_key();
-    if (number == KEEPER_DONE) hand_out_record(checks, name, letter.bytes + at, length);
-    if (number == KEEPER_DONE) checks->accepted++;
+    if (is_accepted(&now) && !has_too_many(checks)) hand_out_records(checks, from);
+    if (is_accepted(&now)) checks->accepted++;
     else checks->refused++;
-    Verdict verdict = {checks->size, checks->asked->words[1], checks->mode->keyed != 0, number, has_fields ? &view : NULL};
-    if (checks->asked->page && page_for_hearing(checks->asked->page, &verdict) != 0) fail("cannot write %s: %s", checks->asked->page, strerror(errno));
-    return number;
+    if (checks->asked->page) write_page(checks, has_fields);
+}
+
+static int tell_one(const Checks *checks) {
+    const Asked *asked = checks->asked;
+    if (has_too_many(checks))
+        return failed("the letter is accepted, and has %" PRIu64 " records: nothing was handed out. --to FOLDER writes them by index", judged->count);
+    if (!asked->record || !is_input(asked->record)) {
+        if (is_accepted(&now)) tell_accepted(&now, "", "");
+        tell_rest(&now, asked->show);
+    }
+    return is_accepted(&now) ? DONE : refused(called_letter(&now), judged->number);
 }
 
 static int check_one(Checks *checks) {
-    read_input(&letter, NULL, LONGEST_LETTER + 1);
-    uint32_t number = judge(checks, NULL);
+    read_letter(&now.letter, NULL);
+    if (checks->asked->page && is_passage(letter))
+        fail("a page shows the way of one record to the root, and this letter is of a passage: nothing was checked. Leave --page out");
+    judge(checks, "-");
     put_number("size", checks->size);
     put_text("root", checks->asked->words[1]);
-    put_flag("accepted", number == KEEPER_DONE);
+    put_flag("accepted", is_accepted(&now));
     put_open("letter", '{');
-    put_letter(NULL, number);
+    put_letter(&now, NULL);
     put_close();
-    int to_output = checks->asked->record && strcmp(checks->asked->record, "-") == 0;
-    if (number == KEEPER_DONE && !to_output) line("accepted: index %" PRIu64 ", a record of %zu bytes", view.index, view.length);
-    if (checks->asked->show && !to_output && letter.length >= LETTER_HEAD) show(number == KEEPER_DONE);
-    return number == KEEPER_DONE ? DONE : refused("letter", number);
+    return tell_one(checks);
 }
 
 /* ---- many letters: a line each, and a total */
 
+static void tell_verdict(const char *path) {
+    const char *kind = is_passage(letter) ? "passage letter " : "";
+    if (is_accepted(&now)) tell_accepted(&now, path, ": ");
+    else line("%s: %srefused, number %u: %s", path, kind, (unsigned)judged->number, words_of(judged->number)->meaning);
+}
+
 static void check_file(Checks *checks, const char *path) {
     put_open(NULL, '{');
-    if (try_input(&letter, path, LONGEST_LETTER + 1) != 0) {
+    if (try_letter(&now.letter, path) != 0) {
         line("%s: not checked: cannot read it: %s", path, strerror(errno));
         put_text("file", path);
         put_text("error", strerror(errno));
         checks->unread++;
     } else {
-        uint32_t number = judge(checks, path);
-        if (number == KEEPER_DONE) line("%s: accepted: index %" PRIu64 ", a record of %zu bytes", path, view.index, view.length);
-        else line("%s: refused, number %u: %s", path, (unsigned)number, words_of(number)->meaning);
-        if (checks->asked->show && letter.length >= LETTER_HEAD) show(number == KEEPER_DONE);
-        put_letter(path, number);
+        judge(checks, path);
+        tell_verdict(path);
+        tell_rest(&now, checks->asked->show);
+        put_letter(&now, path);
     }
     put_close();
 }
@@ -147,12 +155,23 @@ static int check_many(Checks *checks) {
     for (int i = 2; i < checks->asked->count; i++) check_path(checks, checks->asked->words[i]);
     put_close();
     uint64_t all = checks->accepted + checks->refused + checks->unread;
-    line("%" PRIu64 " letters: %" PRIu64 " accepted, %" PRIu64 " refused, %" PRIu64 " not read", all, checks->accepted, checks->refused, checks->unread);
+    line("%" PRIu64 " letters: %" PRIu64 " accepted, %" PRIu64 " refused, %" PRIu64 " not read", all, checks->accepted, checks->refused,
+         checks->unread);
     put_number("accepted_count", checks->accepted);
     put_number("refused_count", checks->refused);
     put_number("unread_count", checks->unread);
     if (all == 0) return failed("there is no letter there");
     return checks->unread > 0 ? FAILED : checks->refused > 0 ? REFUSED : DONE;
+}
+
+/* ---- the command */
+
+/* No output is written over what is needed later, and a folder is there before anything is checked. */
+static void demand_places(const Asked *asked) {
+    if (asked->record) demand_free_of(asked->record, "-", "the letter");
+    if (asked->page) demand_free_of(asked->page, "-", "the letter");
+    if (asked->records_to) demand_folder(asked->records_to);
+    if (asked->to) demand_folder(asked->to);
 }
 
 int check(const Asked *asked) {
@@ -161,8 +180,7 @@ int check(const Asked *asked) {
     checks.size = number_in(asked->words[0], "log's size");
     checks.top_length = bytes_in(asked->words[1], "root", checks.top);
     if (asked->count > 2 && (asked->record || asked->page)) wrong_use("--record and --page go with one letter on standard input");
-    if (asked->json && asked->record && strcmp(asked->record, "-") == 0) wrong_use("the record and an object cannot both go to standard output");
-    if (asked->record) demand_free(asked->record);
-    if (asked->page) demand_free(asked->page);
+    if (asked->json && asked->record && is_input(asked->record)) wrong_use("the record and an object cannot both go to standard output");
+    demand_places(asked);
     return asked->count == 2 ? check_one(&checks) : check_many(&checks);
 }

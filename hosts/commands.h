@@ -7,6 +7,7 @@ int append(const Asked *asked);
 int root(const Asked *asked);
 int info(const Asked *asked);
 int write_letter(const Asked *asked);
+int passage(const Asked *asked);
 int check(const Asked *asked);
 int find(const Asked *asked);
 int verify(const Asked *asked);

@@ -86,7 +86,24 @@ void hand_out_new(const char *path, const uint8_t *bytes, size_t count) {
     if (end_file(file, lost) != 0) fail("cannot write %s: %s", path, strerror(errno));
 }
 
+/* ---- what is not written over, and where */
+
 void demand_free(const char *path) {
     demand_no_log(path);
     demand_no_key(path);
+}
+
+void demand_free_of(const char *path, const char *name, const char *what) {
+    struct stat own, other;
+    if (is_input(path)) return;
+    demand_free(path);
+    if (stat(path, &other) != 0 || !S_ISREG(other.st_mode)) return;
+    if ((is_input(name) ? fstat(STDIN_FILENO, &own) : stat(name, &own)) != 0) return;
+    if (own.st_dev == other.st_dev && own.st_ino == other.st_ino) fail("%s is %s itself, and is not written over", path, what);
+}
+
+void demand_folder(const char *path) {
+    struct stat about;
+    if (stat(path, &about) != 0) fail("cannot write into %s: %s", path, strerror(errno));
+    if (!S_ISDIR(about.st_mode)) fail("cannot write into %s: it is no folder", path);
 }

@@ -13,7 +13,10 @@ to=${DESTDIR-}$prefix_given
 version=$(cat "$top/VERSION")
 built=$top/target/hosts/keeper
 [ "$machine" = x86_64 ] || built=$built.x86_64
-for file in "$built" "$top/target/bin/panel" "$top/target/bin/keyed_panel" "$top/target/staticlib/libkeeper.a" "$top/target/run/ld-linux-x86-64.so.2"; do
+panels='panel keyed_panel passage_panel'
+set -- "$built" "$top/target/staticlib/libkeeper.a" "$top/target/run/ld-linux-x86-64.so.2"
+for name in $panels; do set -- "$@" "$top/target/bin/$name"; done
+for file; do
     [ -f "$file" ] || die "there is no $file: run make first"
 done
 
@@ -43,7 +46,7 @@ else
         printf 'here=$(readlink -f -- "$0")\nhome=${here%%/*/*}/lib/cinchcleat\nexec "$home/qemu-x86_64" "$home/keeper.x86_64" "$@"\n'
     } | put_script bin/keeper
 fi
-for name in panel keyed_panel; do put 755 "$top/target/bin/$name" "lib/cinchcleat/$name"; done
+for name in $panels; do put 755 "$top/target/bin/$name" "lib/cinchcleat/$name"; done
 for file in streams runs panel; do put 644 "$top/shell/$file.sh" "lib/cinchcleat/$file.sh"; done
 {
     printf '#!/bin/sh\n# panel: the verdict number on standard input; panel(1) has the rest\nset -eu\n'

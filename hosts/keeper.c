@@ -32,12 +32,19 @@ static const char usage[] =
     "keeper letter LOG INDEX <RECORD >LETTER\n"
     "                                       the proof letter of a record; where records are kept, none need be given\n"
     "           --record FILE               the record, in place of standard input\n"
-    "keeper check SIZE ROOT <LETTER         checks a letter against the size and root that were noted\n"
+    "keeper passage LOG INDEX FILE [INDEX FILE..] >LETTER\n"
+    "                                       one letter for a passage of play: the records in these files, 256 at the most, their indexes rising\n"
+    "keeper passage LOG --records INDEX.. >LETTER\n"
+    "                                       the same of the records that are kept beside the log\n"
+    "keeper check SIZE ROOT <LETTER         checks a letter, of a record or of a passage, against the size and root that were noted\n"
     "keeper check SIZE ROOT LETTER..        the same for many, files or folders: a line each, and a total\n"
-    "           --show                      the letter in words, with its record\n"
-    "           --record FILE               hands the record out, - to standard output; --records-to FOLDER those of many\n"
-    "           --page FILE.html            a page for the hearing\n"
-    "keeper find LOG RECORD LETTER          compares an accepted letter with the log: the same, or two strings of one digest\n"
+    "           --show                      the letter in words, with its records\n"
+    "           --record FILE               hands the record out, - to standard output; --records-to FOLDER those of many letters\n"
+    "           --to FOLDER                 hands the records out by their indexes, each to INDEX.record\n"
+    "           --page FILE.html            a page for the hearing, of a letter of one record\n"
+    "keeper find LOG RECORD.. LETTER        compares an accepted letter with the log, given the log's own record for each that the letter has:\n"
+    "                                       the same, or two strings of one digest\n"
+    "keeper find LOG --records LETTER       the same with the records that are kept beside the log\n"
     "keeper verify LOG [--records]          works every inner node out anew, and with the kept records every leaf\n"
     "keeper repair LOG COPY                 mends a damaged log, after it is copied to COPY\n"
     "keeper digest [FILE..]                 the digest of each file, or of standard input, -, of any length: a line each, as b3sum has it\n"
@@ -47,7 +54,7 @@ static const char usage[] =
     "keeper node [NODE..]                   reads stored nodes, files or standard input: kind, digest and record's length, or why it is refused\n"
     "           --record FILE               hands the record of a leaf out, - to standard output; with one node\n"
     "\n"
-    "root, letter and find take --size N: the log as it was at that size. Every command takes --json: one object, as keeper(1) has it.\n"
+    "root, letter, passage and find take --size N: the log as it was at that size. Every command takes --json: one object, as keeper(1) has it.\n"
     "All that work on a log, a letter, a digest or a node take --key FILE, of exactly 32 bytes, - for standard input: the log is keyed, from its\n"
     "first append on. info tells of a keyed log without the key too.\n"
     "append, verify, root --records and digest say on a terminal every second how far they are; with --quiet they do not, and digest --check\n"
@@ -78,8 +85,9 @@ static const struct {
     {"root", "--size --bytes --records --folder --stream --quiet --key", root},
     {"info", "--key", info},
     {"letter", "--size --record --key", write_letter},
-    {"check", "--show --record --records-to --page --key", check},
-    {"find", "--size --key", find},
+    {"passage", "--size --records --key", passage},
+    {"check", "--show --record --records-to --to --page --key", check},
+    {"find", "--size --records --key", find},
     {"verify", "--records --quiet --key", verify},
     {"repair", "--wait --key", repair},
     {"digest", "--check --quiet --key", digest},

@@ -2,7 +2,6 @@
 #include <inttypes.h>
 #include <stdio.h>
 #include <string.h>
-#include <sys/stat.h>
 #include <unistd.h>
 #include "answer.h"
 #include "commands.h"
@@ -193,16 +192,6 @@ static int write_inner(const Asked *asked) {
 
 /* ---- the command */
 
-/* Neither a log, nor the key, nor the node itself is written over by the record. */
-static void demand_record_free(const char *record, const char *name) {
-    struct stat node, other;
-    if (is_input(record)) return;
-    demand_free(record);
-    if (stat(record, &other) != 0 || !S_ISREG(other.st_mode)) return;
-    if ((is_input(name) ? fstat(STDIN_FILENO, &node) : stat(name, &node)) != 0) return;
-    if (node.st_dev == other.st_dev && node.st_ino == other.st_ino) fail("%s is the stored node itself, and is not written over", record);
-}
-
 static void demand_form(const Asked *asked) {
     int writes = asked->leaf || asked->inner;
     if (asked->leaf && asked->inner) wrong_use("a node is a leaf or an inner one: --leaf and --inner do not go together");
@@ -222,6 +211,6 @@ int node(const Asked *asked) {
     if (asked->leaf) return write_leaf(asked);
     if (asked->inner) return write_inner(asked);
     if (name_input(names, count) && asked->key && is_input(asked->key)) take_standard_input();
-    if (asked->record) demand_record_free(asked->record, names[0]);
+    if (asked->record) demand_free_of(asked->record, names[0], "the stored node");
     return read_nodes(asked, names, count);
 }

@@ -30,7 +30,7 @@ static const Option options[] = {
     FLAG("--acknowledge", acknowledge), FLAG("--keep-records", keep_records), FLAG("--show", show), FLAG("--records", records), FLAG("--quiet", quiet),
     FLAG("--check", check), FLAG("--leaf", leaf),
     VALUE("--folder", folder), VALUE("--size", size), VALUE("--record", record), VALUE("--records-to", records_to), VALUE("--page", page),
-    VALUE("--wait", wait), VALUE("--key", key), VALUE("--inner", inner),
+    VALUE("--wait", wait), VALUE("--key", key), VALUE("--inner", inner), VALUE("--to", to),
 };
 
 static const Option *option_named(const char *word, size_t length) {

@@ -8,7 +8,7 @@
 typedef struct {
     const char *command;
     int json, help, bytes, stream, acknowledge, keep_records, show, records, quiet, check, leaf;
-    const char *folder, *size, *record, *records_to, *page, *wait, *key, *inner;
+    const char *folder, *size, *record, *records_to, *to, *page, *wait, *key, *inner;
     char **words; /* what is no option */
     int count;
     int before_records; /* how many of them stand before --records */

@@ -1,13 +1,14 @@
-/* The keeper's calls, as C sees them, in libkeeper.a (rt staticlib keeper). docs/RULES.md has the rules.
-   A lent slice is two arguments, a pointer and a length: of bytes, its name ends in _len and counts bytes; of 32-bit numbers, it ends in _count and
-   counts the numbers. Each call returns a number: KEEPER_DONE, or the first refusal that applies, in the order that stands at the call. A refusal
-   changes no lent byte and no result. No call keeps anything when it returns: any number of threads may call at once, each with its own bytes.
+/* The keeper's calls, as C sees them, in libkeeper.a (make library). docs/RULES.md has the rules.
+   A lent slice is two arguments, a pointer and a length: of bytes, its name ends in _len and counts bytes; of numbers of 32 or 64 bits, it ends in
+   _count and counts the numbers. Each call returns a number: KEEPER_DONE, or the first refusal that applies, in the order that stands at the call. A
+   refusal changes no lent byte and no result. No call keeps anything when it returns: any number of threads may call at once, each with its own
+   bytes.
    What the caller owes, and nothing checks:
    - each pointer is good for its length, to read or to write; one of length 0 is not looked at and may be NULL;
    - no length is longer than the object behind its pointer, which C keeps below 2^63 bytes;
-   - a mode, a keeper_parts and a result pointer are not NULL; they, and the 32-bit numbers of a slice, are aligned as their types are;
-   - what a call writes, results too, overlaps nothing else that it is lent: so the finder's two buffers lie apart.
-   No proof compares this file with crates/keeper/src/lib.rt; outside/ calls every function by it. */
+   - a mode, a keeper_parts and a result pointer are not NULL; they, and the numbers of a slice, are aligned as their types are;
+   - what a call writes, results too, overlaps nothing else that it is lent: so a finder's two buffers lie apart.
+   No proof compares this file with the calls in crates/keeper, crates/parts_c and crates/passage_c; outside/ calls every function by it. */
 #ifndef KEEPER_H
 #define KEEPER_H
 #include <stddef.h>
@@ -30,13 +31,14 @@ enum {
     KEEPER_NODES_TOO_SHORT = 4,
     /* index not below the leaf count (position of a leaf alone: not below 2^32): ask for a leaf that the log has; a letter for it shows nothing */
     KEEPER_NO_SUCH_LEAF = 5,
-    /* output buffer too short: lend as many bytes as stand at the call */
+    /* output buffer too short: lend as many bytes, or places, as stand at the call */
     KEEPER_OUTPUT_TOO_SHORT = 6,
-    /* letter under 20 bytes, or not of its exact length: it was cut, or something was put behind it; ask for it again */
+    /* letter under 20 bytes, passage letter under 10 or ending within a record, or either not of its exact length: it was cut, or something was put
+       behind it; ask for it again */
     KEEPER_NOT_A_LETTER = 7,
     /* letter names another size: it is about another state of the log; ask for one of the size that is trusted */
     KEEPER_OTHER_SIZE = 8,
-    /* root worked out from the letter differs: the letter shows nothing about this log, and its record is not to be taken for the logged one */
+    /* root worked out from the letter differs: the letter shows nothing about this log, and its records are not to be taken for the logged ones */
     KEEPER_OTHER_ROOT = 9,
     /* root of an empty log: append a record first */
     KEEPER_EMPTY_LOG = 10,
@@ -46,10 +48,11 @@ enum {
     KEEPER_NOT_A_DIGEST = 12,
     /* record's digest isn't the leaf at its place: this is not the record that was logged at the index */
     KEEPER_OTHER_RECORD = 13,
-    /* finder: a node on the path, within its peak, isn't the digest of its two children: the nodes are damaged; take them from a copy */
+    /* finder: a node that it looks into, within its peak, isn't the digest of its two children: the nodes are damaged; take them from a copy */
     KEEPER_DAMAGED_NODES = 14,
     /* 15 is struck: it was for a letter of more than 32 items, which no log needs. No call answers it, and it will never mean anything else */
-    /* lengths do not add up to the joined records: a record was left out or cut, or a length is another's; join them again, one length for each */
+    /* lengths do not add up to the joined records; in a passage also, not one length for each index: a record was left out or cut, or a length is
+       another's; join them again, one length for each */
     KEEPER_LENGTHS_OFF = 16,
     /* digest in parts: a part that would pass 2^40 bytes in all, a state with a total above that, or one whose counts are not its total's: the input
        is too long for it, or the state is damaged; begin again, with the first byte */
@@ -57,6 +60,9 @@ enum {
     /* digest in a stored leaf isn't that of its record: the record or the digest in it was changed, or the leaf was written in another mode (another
        league's key, or none): do not use its record; take the leaf from a copy, and read it in the log's own mode */
     KEEPER_OTHER_DIGEST = 18,
+    /* list of indexes empty, of more than 256, or not rising strictly: sort the indexes, leave out doubles, ask for at most 256 in one letter; a
+       letter that names such a list is damaged */
+    KEEPER_NOT_RISING = 19,
     /* key not 32 bytes: take the league's key whole, and nothing with it */
     KEEPER_NOT_A_KEY = 24
 };
@@ -91,7 +97,7 @@ enum {
     KEEPER_LEAF = 1
 };
 
-/* What the finder finds. */
+/* What a finder finds. */
 enum {
     KEEPER_SAME = 1,
     KEEPER_RECORDS = 2,
@@ -177,6 +183,46 @@ uint32_t keeper_letter_check(const keeper_mode *mode, uint64_t size, const uint8
 uint32_t keeper_find(const keeper_mode *mode, uint64_t size, const uint8_t *nodes, size_t nodes_len, const uint8_t *rec, size_t rec_len,
                      const uint8_t *letter, size_t letter_len, uint8_t *first, size_t first_len, uint8_t *second, size_t second_len,
                      uint32_t *found);
+
+/* One letter for a passage: several records of the log, into the first bytes of out: size (8), number of records (2), for each record its index (8),
+   length (4) and bytes, numbers big-endian; then digests of 32 bytes. indexes rise strictly, 1 to 256 of them; records has the records that were
+   logged there, joined in that order, and lengths how many bytes each has. nodes are the log's. length is how many bytes were written: 10, 12 + its
+   length for each record, and 32 for each largest subtree of the folded tree that holds none of them (RULES 12.4); at most 4,393,994.
+   1, 19, 16 (also unless one length for each index), then of the first record that has any 5, 3, then 4, 13 for any record, 6. */
+uint32_t keeper_passage_write(const keeper_mode *mode, uint64_t size, const uint64_t *indexes, size_t indexes_count, const uint8_t *records,
+                              size_t records_len, const uint32_t *lengths, size_t lengths_count, const uint8_t *nodes, size_t nodes_len,
+                              uint8_t *out, size_t out_len, size_t *length);
+
+/* A passage letter, checked against a size and a root that the caller trusts: how many records it has. Bytes 8 and 9 tell which check a letter is
+   for: in keeper_letter_check's letters both are 0, in these they are not; what one of the two accepts the other refuses.
+   1, 12, 7 (under 10 bytes), 8, 19 (the number), then for each record in turn 7 (its 12 bytes cut off), 19 (its index is not above the last one), 5,
+   3, 7 (the record cut off), then 7 (the exact length), 9. */
+uint32_t keeper_passage_check(const keeper_mode *mode, uint64_t size, const uint8_t *root, size_t root_len, const uint8_t *letter, size_t letter_len,
+                              uint64_t *count);
+
+/* Record k of a passage letter, counted from 0: its index, and its bytes, which are the record_len bytes from letter + record_at on. Past the last
+   record all three are 0. The letter is checked each time: whoever wants all records takes the call below. The numbers of keeper_passage_check. */
+uint32_t keeper_passage_entry(const keeper_mode *mode, uint64_t size, const uint8_t *root, size_t root_len, const uint8_t *letter, size_t letter_len,
+                              uint64_t k, uint64_t *index, size_t *record_at, size_t *record_len);
+
+/* All records of a passage letter, checked once: the index of record k into indexes[k], where its bytes begin in the letter into starts[k], and how
+   many there are into lengths[k]; count is how many records there are, and what is behind them in the three slices stays. 256 places each are always
+   enough. The numbers of keeper_passage_check, then 6 (one of the three slices has fewer places than there are records). */
+uint32_t keeper_passage_entries(const keeper_mode *mode, uint64_t size, const uint8_t *root, size_t root_len, const uint8_t *letter,
+                                size_t letter_len, uint64_t *indexes, size_t indexes_count, uint64_t *starts, size_t starts_count,
+                                uint64_t *lengths, size_t lengths_count, uint64_t *count);
+
+/* A passage letter compared with the log, where the log's own nodes accept it: records are those that the log has at the letter's indexes, joined,
+   with their lengths. Compares, from the root, left before right, each 64-byte input of the log with that of the letter, wherever the letter looks
+   into the folded tree. At the first difference found is KEEPER_PAIR, with the log's input in the first 64 bytes of log_input and the letter's in
+   those of letter_input: two different strings with one digest in that mode. With none it compares the records, by rising index: at the first two
+   that differ found is KEEPER_RECORDS and index theirs; else KEEPER_SAME. index is 0 unless found is KEEPER_RECORDS. The buffers change only for
+   KEEPER_PAIR. 1, 10, 4, then with the root of its own nodes keeper_passage_check's from 7 on, 16 (also unless one length for each index that the
+   letter names), then of the first record that has any 3, 13, then 14, 6 (either buffer under 64, whatever the outcome). */
+uint32_t keeper_passage_find(const keeper_mode *mode, uint64_t size, const uint8_t *nodes, size_t nodes_len, const uint8_t *records,
+                             size_t records_len, const uint32_t *lengths, size_t lengths_count, const uint8_t *letter, size_t letter_len,
+                             uint8_t *log_input, size_t log_input_len, uint8_t *letter_input, size_t letter_input_len, uint32_t *found,
+                             uint64_t *index);
 
 #ifdef __cplusplus
 }

@@ -15,7 +15,7 @@
 #include <unistd.h>
 #include "keeper.h"
 
-enum { NAME = 16, NUMBERS = 2, PARTS = 7, ROOM = 1 << 17, MARGIN = 256, UNTOUCHED = 0xA5 };
+enum { NAME = 16, NUMBERS = 2, PARTS = 10, ROOM = 1 << 18, MARGIN = 256, UNTOUCHED = 0xA5 };
 typedef struct {
     uint8_t *room, *bytes;
     size_t length;
@@ -31,6 +31,7 @@ _Static_assert(sizeof(keeper_parts) == 1112, "a state has no byte between its fi
 #define U64(I) ((uint64_t *)(void *)parts[I].bytes)
 #define U32(I) ((uint32_t *)(void *)parts[I].bytes)
 #define WORDS(I) U32(I), parts[I].length / sizeof(uint32_t)
+#define PLACES(I) U64(I), parts[I].length / sizeof(uint64_t)
 #define SIZE(I) ((size_t *)(void *)parts[I].bytes)
 #define MODE(I) ((keeper_mode *)(void *)parts[I].bytes)
 #define STATE(I) ((keeper_parts *)(void *)parts[I].bytes)
@@ -53,17 +54,87 @@ static uint32_t find(void) { return keeper_find(MODE(0), numbers[0], BUFFER(1), 
 static uint32_t store_leaf(void) { return keeper_store_leaf(MODE(0), BUFFER(1), BUFFER(2), SIZE(3)); }
 static uint32_t store_inner(void) { return keeper_store_inner(BUFFER(0), BUFFER(1), SIZE(2)); }
 static uint32_t read_node(void) { return keeper_read_node(MODE(0), BUFFER(1), U32(2), BUFFER(3), SIZE(4), SIZE(5)); }
+static uint32_t passage_write(void) {
+    return keeper_passage_write(MODE(0), numbers[0], PLACES(1), BUFFER(2), WORDS(3), BUFFER(4), BUFFER(5), SIZE(6));
+}
+static uint32_t passage_check(void) { return keeper_passage_check(MODE(0), numbers[0], BUFFER(1), BUFFER(2), U64(3)); }
+static uint32_t passage_entry(void) { return keeper_passage_entry(MODE(0), numbers[0], BUFFER(1), BUFFER(2), numbers[1], U64(3), SIZE(4), SIZE(5)); }
+static uint32_t passage_entries(void) {
+    return keeper_passage_entries(MODE(0), numbers[0], BUFFER(1), BUFFER(2), PLACES(3), PLACES(4), PLACES(5), U64(6));
+}
+static uint32_t passage_find(void) {
+    return keeper_passage_find(MODE(0), numbers[0], BUFFER(1), BUFFER(2), WORDS(3), BUFFER(4), BUFFER(5), BUFFER(6), U32(7), U64(8));
+}
 
-/* append_many over a buffer that is too long to be sent, numbers[1] bytes: the part is its end, and before it are zeros that nobody has written.
-   The number of no call where there is no such memory. */
+/* A buffer that is too long to be sent: zeros that nobody has written. NULL where there is no such memory, and then the number is that of no call. */
+static uint8_t *wide_room(size_t length) {
+    uint8_t *all = mmap(NULL, length, PROT_READ | PROT_WRITE, MAP_PRIVATE | MAP_ANONYMOUS | MAP_NORESERVE, -1, 0);
+    return all == MAP_FAILED ? NULL : all;
+}
+
+/* append_many over such a buffer, of numbers[1] bytes: the part is its end. */
 static uint32_t append_wide(void) {
     size_t length = (size_t)numbers[1], before = length - parts[3].length;
-    uint8_t *all = mmap(NULL, length, PROT_READ | PROT_WRITE, MAP_PRIVATE | MAP_ANONYMOUS | MAP_NORESERVE, -1, 0);
-    if (all == MAP_FAILED) return UINT32_MAX;
+    uint8_t *all = wide_room(length);
+    if (!all) return UINT32_MAX;
     memcpy(all + before, parts[3].bytes, parts[3].length);
     uint32_t number = keeper_append_many(MODE(0), numbers[0], BUFFER(1), WORDS(2), all, length, U64(4), U64(5));
     memcpy(parts[3].bytes, all + before, parts[3].length);
     munmap(all, length);
+    return number;
+}
+
+/* Such a buffer of nodes, of numbers[1] bytes: those in a part stand at the positions in the part before it, and all others are zeros. */
+static uint8_t *wide_nodes(int positions) {
+    uint8_t *all = wide_room((size_t)numbers[1]);
+    for (size_t i = 0; all && i < parts[positions].length / sizeof(uint64_t); i++)
+        memcpy(all + 32 * U64(positions)[i], parts[positions + 1].bytes + 32 * i, 32);
+    return all;
+}
+
+/* passage_write and passage_find over such nodes. */
+static uint32_t write_wide(void) {
+    uint8_t *nodes = wide_nodes(4);
+    if (!nodes) return UINT32_MAX;
+    uint32_t number = keeper_passage_write(MODE(0), numbers[0], PLACES(1), BUFFER(2), WORDS(3), nodes, numbers[1], BUFFER(6), SIZE(7));
+    munmap(nodes, numbers[1]);
+    return number;
+}
+
+static uint32_t find_wide(void) {
+    uint8_t *nodes = wide_nodes(3);
+    if (!nodes) return UINT32_MAX;
+    uint32_t number = keeper_passage_find(MODE(0), numbers[0], nodes, numbers[1], BUFFER(1), WORDS(2), BUFFER(5), BUFFER(6), BUFFER(7), U32(8),
+                                          U64(9));
+    munmap(nodes, numbers[1]);
+    return number;
+}
+
+static void put_number(uint8_t *at, int bytes, uint64_t number) {
+    for (int i = 0; i < bytes; i++) at[i] = (uint8_t)(number >> 8 * (bytes - 1 - i));
+}
+
+/* passage_check and passage_entries of a letter that is too long to be sent, numbers[1] bytes short and against a forbidden page: its indexes, the
+   bytes that each of its records has, and its digests are parts. The number of no call where the two calls answer differently. */
+static uint32_t check_long(void) {
+    size_t page = (size_t)sysconf(_SC_PAGESIZE), count = parts[2].length / sizeof(uint64_t), record = parts[3].length;
+    size_t length = 10 + count * (12 + record) + parts[4].length, room = (length + page - 1) / page * page;
+    uint8_t *all = mmap(NULL, room + page, PROT_READ | PROT_WRITE, MAP_PRIVATE | MAP_ANONYMOUS, -1, 0);
+    if (all == MAP_FAILED) return UINT32_MAX;
+    uint8_t *letter = all + room - length, *at = letter + 10;
+    put_number(letter, 8, numbers[0]), put_number(letter + 8, 2, count);
+    for (size_t k = 0; k < count; k++, at += 12 + record) {
+        put_number(at, 8, U64(2)[k]), put_number(at + 8, 4, record);
+        memcpy(at + 12, parts[3].bytes, record);
+    }
+    memcpy(at, parts[4].bytes, parts[4].length);
+    memmove(letter + numbers[1], letter, length - numbers[1]);
+    mprotect(all, room, PROT_READ), mprotect(all + room, page, PROT_NONE);
+    letter += numbers[1], length -= numbers[1];
+    uint32_t number = keeper_passage_entries(MODE(0), numbers[0], BUFFER(1), letter, length, PLACES(5), PLACES(6), PLACES(7), U64(8));
+    uint64_t counted = number == 0 ? *U64(8) : 0, checked = 0;
+    if (keeper_passage_check(MODE(0), numbers[0], BUFFER(1), letter, length, &checked) != number || checked != counted) number = UINT32_MAX;
+    munmap(all, room + page);
     return number;
 }
 
@@ -123,7 +194,15 @@ static const struct {
     {"store_leaf", store_leaf, 2},
     {"store_inner", store_inner, 1},
     {"read_node", read_node, 2},
+    {"passage_write", passage_write, 5},
+    {"passage_check", passage_check, 3},
+    {"passage_entry", passage_entry, 3},
+    {"passage_entries", passage_entries, 3},
+    {"passage_find", passage_find, 5},
     {"append_wide", append_wide, 3},
+    {"write_wide", write_wide, 6},
+    {"find_wide", find_wide, 6},
+    {"check_long", check_long, 5},
     {"parts_cut", parts_cut, 3},
     {"stray", stray, 0},
     {"layout", layout, 0},

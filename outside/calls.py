@@ -24,13 +24,21 @@ PARTS = {
     "store_leaf": ("mode", "record", "out", "length"),
     "store_inner": ("digest", "out", "length"),
     "read_node": ("mode", "bytes", "kind", "digest_out", "record_at", "record_len"),
+    "passage_write": ("mode", "indexes", "joined", "lengths", "nodes", "out", "length"),
+    "passage_check": ("mode", "root", "letter", "count"),
+    "passage_entry": ("mode", "root", "letter", "index", "record_at", "record_len"),
+    "passage_entries": ("mode", "root", "letter", "indexes", "starts", "lengths", "count"),
+    "passage_find": ("mode", "nodes", "joined", "lengths", "letter", "log_input", "letter_input", "found", "index"),
     "append_wide": ("mode", "joined", "lengths", "end", "new_size", "hashes"),
+    "write_wide": ("mode", "indexes", "joined", "lengths", "positions", "nodes", "out", "length"),
+    "find_wide": ("mode", "joined", "lengths", "positions", "nodes", "letter", "log_input", "letter_input", "found", "index"),
+    "check_long": ("mode", "root", "indexes", "record", "digests", "indexes_out", "starts_out", "lengths_out", "count"),
     "parts_cut": ("mode", "input", "lengths", "state", "out"),
     "stray": ("part",),
     "layout": ("of a mode", "of a state"),
 }
-# Those that are no calls of the library: one that is another once more, several in a row, and two of the bridge alone.
-NO_CALLS = ("append_wide", "parts_cut", "stray", "layout")
+# Those that are no calls of the library: some that are others once more, several in a row, and two of the bridge alone.
+NO_CALLS = ("append_wide", "write_wide", "find_wide", "check_long", "parts_cut", "stray", "layout")
 # Those that work out a digest, in the mode that is their first part; the reader of stored nodes does so for a leaf.
 MODED = tuple(call for call, parts in PARTS.items() if parts[0] == "mode" and len(parts) > 1 and "state" not in parts)
 # Where a case has the number of its mode: the part, and the place in it.
@@ -51,6 +59,16 @@ def u64(number):
 def u32(number):
     """A variable of 32 bits."""
     return struct.pack("<I", number)
+
+
+def u64s(numbers):
+    """Numbers of 64 bits, one behind the other."""
+    return struct.pack(f"<{len(numbers)}Q", *numbers)
+
+
+def u32s(numbers):
+    """Numbers of 32 bits, one behind the other."""
+    return struct.pack(f"<{len(numbers)}I", *numbers)
 
 
 def mode_bytes(keyed, key):
@@ -106,7 +124,7 @@ def end_case(state, room):
 
 def cut_case(data, lengths, mode=PLAIN):
     """A digest in parts of these lengths, from its begin to its end."""
-    return Case("parts_cut", (), [mode, data, struct.pack(f"<{len(lengths)}I", *lengths), BEFORE_STATE, b"\x4d" * 32])
+    return Case("parts_cut", (), [mode, data, u32s(lengths), BEFORE_STATE, b"\x4d" * 32])
 
 
 def number_case(call, number):
@@ -136,7 +154,7 @@ def append_case(size, record, nodes, mode=PLAIN):
 
 def many_case(size, joined, lengths, nodes, mode=PLAIN):
     """An append of many records, whose lengths are numbers of 32 bits."""
-    return Case("append_many", (size,), [mode, joined, struct.pack(f"<{len(lengths)}I", *lengths), nodes, u64(23 << 33), u64(25 << 33)])
+    return Case("append_many", (size,), [mode, joined, u32s(lengths), nodes, u64(23 << 33), u64(25 << 33)])
 
 
 def wide_case(size, length, records, end, mode):
@@ -163,6 +181,50 @@ def inner_case(given, room):
 def read_case(data, room, mode=PLAIN):
     """A stored node read, the digest into so many bytes."""
     return Case("read_node", (), [mode, data, u32(77), b"\x1e" * room, u64(15 << 33), u64(17 << 33)])
+
+
+def passage_write_case(size, indexes, joined, lengths, nodes, room, mode=PLAIN):
+    """A passage written into so many bytes."""
+    return Case("passage_write", (size,), [mode, u64s(indexes), joined, u32s(lengths), nodes, b"\x69" * room, u64(31 << 33)])
+
+
+def passage_check_case(size, top, letter, mode=PLAIN):
+    """A passage checked."""
+    return Case("passage_check", (size,), [mode, top, letter, u64(33 << 33)])
+
+
+def passage_entry_case(size, top, letter, place, mode=PLAIN):
+    """A record of a passage."""
+    return Case("passage_entry", (size, place), [mode, top, letter, u64(3 << 40), u64(5 << 40), u64(7 << 40)])
+
+
+def passage_entries_case(size, top, letter, rooms, mode=PLAIN):
+    """All records of a passage, into lists of so many places."""
+    return Case("passage_entries", (size,), [mode, top, letter, *(b"\x2b" * 8 * room for room in rooms), u64(35 << 33)])
+
+
+def passage_find_case(size, nodes, joined, lengths, letter, rooms=(64, 64), mode=PLAIN):
+    """The finder of passages, its buffers of these lengths."""
+    return Case("passage_find", (size,), [mode, nodes, joined, u32s(lengths), letter, b"\x4b" * rooms[0], b"\x5a" * rooms[1], u32(99), u64(37 << 33)])
+
+
+def write_wide_case(size, length, indexes, records, nodes, room, mode):
+    """A passage written over nodes that are too many to be sent: how many bytes they have, and those that are not zeros, by position."""
+    return Case("write_wide", (size, length), [mode, u64s(indexes), b"".join(records), u32s([len(record) for record in records]), u64s(list(nodes)),
+                                               b"".join(nodes.values()), b"\x69" * room, u64(31 << 33)])
+
+
+def find_wide_case(size, length, records, nodes, letter, mode):
+    """A passage compared with such nodes."""
+    return Case("find_wide", (size, length), [mode, b"".join(records), u32s([len(record) for record in records]), u64s(list(nodes)),
+                                              b"".join(nodes.values()), letter, b"\x4b" * 64, b"\x5a" * 64, u32(99), u64(37 << 33)])
+
+
+def check_long_case(size, top, indexes, record, digests, short, mode):
+    """A passage that is too long to be sent checked and handed out: its indexes, the bytes that each record has, its digests, and how many bytes of
+    its end are cut off."""
+    lists = [b"\x2b" * 8 * len(indexes)] * 3
+    return Case("check_long", (size, short), [mode, top, u64s(indexes), record, digests, *lists, u64(35 << 33)])
 
 
 def flipped(data, place, mask=1):

@@ -3,10 +3,10 @@
 
 A C program, outside/bridge.c, makes each call on buffers that lie against forbidden pages and hands back the number and every byte that it lent,
 result variables too. What the second program says is compared with all of it. Each refusal alone, and every two at once, stand in vectors/, which
-outside/vectors.py holds the library to; here is what such files cannot hold, and no case that they have. The finder's "records" and "pair" are two
+outside/vectors.py holds the library to; here is what such files cannot hold, and no case that they have. A finder's "records" and "pair" are two
 strings of one digest: nobody has such strings, so of its answers only "same" and the refusals are met here. What works out a digest is tried plain
-and keyed, and has a row for each at the end. Before that the layout of what C and the library share is compared, by layout.py, and batches at the
-end of a log of 2^32 leaves are tried, by full.py.
+and keyed, and has a row for each at the end. Before that the layout of what C and the library share is compared, by layout.py, batches at the end
+of a log of 2^32 leaves are tried, by full.py, and passages of such logs and the longest one, by far.py.
 
     outside.py                        build the bridge and compare
     outside.py --seed N --rounds N    other random inputs, or more of them
@@ -25,15 +25,28 @@ from pathlib import Path
 sys.path.insert(0, str(Path(__file__).resolve().parent.parent / "second"))
 
 from bridge import Answer, Bridge, build, differences, lines_of, made_wrong, refused, wrong_answers  # noqa: E402
-from calls import MODED, NO_CALLS, NUMBER_AT, PLAIN, Case, is_keyed, mode_bytes, u32, u64  # noqa: E402
+from calls import MODED, NO_CALLS, NUMBER_AT, PLAIN, Case, is_keyed, mode_bytes, u32, u64, u64s  # noqa: E402
+from far import far_agrees  # noqa: E402
 from full import full_agrees  # noqa: E402
 from inputs import cases  # noqa: E402
 from inputs.world import digest_in, mode_in, packed, unpacked  # noqa: E402
 from layout import layout_agrees  # noqa: E402
-from rules import batch, blake3, finder, letters, log, parts, shape, stored  # noqa: E402
+from rules import batch, blake3, finder, letters, log, parts, passage_finder, passages, shape, stored  # noqa: E402
 from rules.log import NODE  # noqa: E402
 
 ROUNDS = 12000
+# The words of a finder, as C has them.
+WORDS = {None: 0, "same": 1, "records": 2, "pair": 3}
+
+
+def words_in(data):
+    """Numbers of 32 bits."""
+    return struct.unpack(f"<{len(data) // 4}I", data)
+
+
+def numbers_in(data):
+    """Numbers of 64 bits."""
+    return struct.unpack(f"<{len(data) // 8}Q", data)
 
 
 # ---- what the second program says of a call: the number, and the parts where it is done; in place of a mode that is only read stands its digest
@@ -68,7 +81,7 @@ def say_parts_end(numbers, state, out):
 
 def say_parts_cut(numbers, mode, data, lengths, state, out):
     after, at = parts.begin(mode_in(mode)), 0
-    for length in struct.unpack(f"<{len(lengths) // 4}I", lengths):
+    for length in words_in(lengths):
         after = parts.add(after, data[at:at + length]).state
         at += length
     return 0, [mode, data, lengths, packed(after), parts.end(after).digest + out[NODE:]]
@@ -97,7 +110,7 @@ def say_append(numbers, digest, record, nodes, new_size, hashes):
 
 def say_append_many(numbers, digest, joined, lengths, nodes, new_size, hashes):
     buffer = bytearray(nodes)
-    answer = batch.append_many(*numbers, joined, struct.unpack(f"<{len(lengths) // 4}I", lengths), buffer, digest)
+    answer = batch.append_many(*numbers, joined, words_in(lengths), buffer, digest)
     return answer.number, [joined, lengths, bytes(buffer), u64(answer.size), u64(answer.hashes)]
 
 
@@ -122,8 +135,7 @@ def say_letter_check(numbers, digest, top, letter, index, record_at, record_len)
 def say_find(numbers, digest, nodes, record, letter, first, second, found):
     ours, theirs = bytearray(first), bytearray(second)
     answer = finder.find(*numbers, record, nodes, letter, ours, theirs, digest)
-    kind = {None: 0, "same": 1, "records": 2, "pair": 3}[answer.outcome]
-    return answer.number, [nodes, record, letter, bytes(ours), bytes(theirs), u32(kind)]
+    return answer.number, [nodes, record, letter, bytes(ours), bytes(theirs), u32(WORDS[answer.outcome])]
 
 
 def say_store_leaf(numbers, digest, record, out, length):
@@ -143,6 +155,35 @@ def say_read_node(numbers, digest, data, kind, out, record_at, record_len):
     number = 6 if read.number == 0 and len(out) < NODE else read.number
     leaf = read.kind == "leaf"
     return number, [data, u32(leaf), read.digest + out[NODE:], u64(37 if leaf else 0), u64(len(read.record))]
+
+
+def say_passage_write(numbers, digest, indexes, joined, lengths, nodes, out, length):
+    buffer = bytearray(out)
+    answer = passages.write_passage(*numbers, numbers_in(indexes), joined, words_in(lengths), nodes, buffer, digest)
+    return answer.number, [indexes, joined, lengths, nodes, bytes(buffer), u64(answer.length)]
+
+
+def say_passage_check(numbers, digest, top, letter, count):
+    answer = passages.check_passage(*numbers, top, letter, digest)
+    return answer.number, [top, letter, u64(answer.count)]
+
+
+def say_passage_entry(numbers, digest, top, letter, index, record_at, record_len):
+    size, place = numbers
+    answer = passages.passage_entry(size, top, letter, place, digest)
+    return answer.number, [top, letter, *map(u64, answer[1:])]
+
+
+def say_passage_entries(numbers, digest, top, letter, indexes, starts, lengths, count):
+    lists = [list(numbers_in(places)) for places in (indexes, starts, lengths)]
+    answer = passages.passage_entries(*numbers, top, letter, *lists, digest)
+    return answer.number, [top, letter, *map(u64s, lists), u64(answer.count)]
+
+
+def say_passage_find(numbers, digest, nodes, joined, lengths, letter, log_input, letter_input, found, index):
+    ours, theirs = bytearray(log_input), bytearray(letter_input)
+    answer = passage_finder.find_passage(*numbers, joined, words_in(lengths), nodes, letter, ours, theirs, digest)
+    return answer.number, [nodes, joined, lengths, letter, bytes(ours), bytes(theirs), u32(WORDS[answer.outcome]), u64(answer.index)]
 
 
 # A call: what the second program says of it, and the numbers of its order.
@@ -167,6 +208,11 @@ CALLS = {
     "store_leaf": Call(say_store_leaf, (0, 3, 6)),
     "store_inner": Call(say_store_inner, (0, 12, 6)),
     "read_node": Call(say_read_node, (0, 11, 3, 18, 6)),
+    "passage_write": Call(say_passage_write, (0, 1, 19, 16, 5, 3, 4, 13, 6)),
+    "passage_check": Call(say_passage_check, (0, 1, 12, 7, 8, 19, 5, 3, 9)),
+    "passage_entry": Call(say_passage_entry, (0, 1, 12, 7, 8, 19, 5, 3, 9)),
+    "passage_entries": Call(say_passage_entries, (0, 1, 12, 7, 8, 19, 5, 3, 9, 6)),
+    "passage_find": Call(say_passage_find, (0, 1, 10, 4, 7, 8, 19, 5, 3, 9, 16, 13, 14, 6)),
 }
 
 
@@ -195,17 +241,17 @@ def reported(given, at, case, lines):
 
 def self_test(bridge, given):
     """For each row one case of each number: every part of the second program's answer made wrong in turn, and each wrong answer noticed."""
-    noticed, unseen = [], {(row, number) for row in ROWS for number in CALLS[row[0]].order}
+    noticed, unseen = [], {row: set(CALLS[row[0]].order) for row in ROWS}
     for at, case in enumerate(cases(given.seed, given.rounds)):
-        right = said(case)
-        met = (case.call, is_keyed(case)), right.number
-        if met in unseen:
-            unseen.remove(met)
+        numbers = unseen[case.call, is_keyed(case)]
+        right = said(case) if numbers else None
+        if right and right.number in numbers:
+            numbers.remove(right.number)
             ours = bridge.ask(at, case)
             if reported(given, at, case, differences(case, ours, right)):
                 return False
             noticed += [bool(differences(case, ours, wrong)) for wrong in wrong_answers(right)]
-        if not unseen:
+        if not any(unseen.values()):
             break
     for at in range(2):
         case = Case("stray", (), [b"lent"])
@@ -263,7 +309,7 @@ def main():
     parser.add_argument("--bridge", help="a bridge that is built already")
     given = parser.parse_args()
     bridge = Bridge(given.bridge or build())
-    good = given.only is not None or (layout_agrees(bridge) and self_test(bridge, given) and full_agrees(bridge))
+    good = given.only is not None or (layout_agrees(bridge) and self_test(bridge, given) and full_agrees(bridge) and far_agrees(bridge))
     if good and not given.self_test:
         good = compare(bridge, given)
     return bridge.close() == 0 and good

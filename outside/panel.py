@@ -1,9 +1,10 @@
 #!/usr/bin/env python3
-"""A panel's program held to its file of vectors/, panel.json or panel-keyed.json: run on each input, and its number compared with the file's.
+"""A panel's program held to its file of vectors/, panel.json, panel-keyed.json or passages-checked.json: run on each input, and its number compared
+with the file's.
 
-An input is given at once, and some in pieces.
+An input is given at once, and some in pieces. The program for passages is run on what panel_passages.py has.
 
-    panel.py PROGRAM WORD..                which program it is, panel or keyed_panel, and the words that start it
+    panel.py PROGRAM WORD..                which program it is, panel, keyed_panel or passage_panel, and the words that start it
     panel.py --self-test PROGRAM WORD..    only try that a wrong number is noticed (each run begins with this)
 
 Exit status: 0 where all agree; 1 where one differs, which is printed.
@@ -12,12 +13,16 @@ import argparse
 import subprocess
 import sys
 import time
+from concurrent.futures import ThreadPoolExecutor
 
+from panel_passages import passage_inputs
 from vector_cases import vectors
 
 # An input that is given in pieces too: how long it is at least, and in how many.
 IN_PIECES = 100
 PIECES = (2, 3, 7)
+# How many programs run at a time: those that get pieces wait for most of it.
+AT_ONCE = 4
 
 
 def run_panel(words, data, pieces):
@@ -38,16 +43,21 @@ def run_panel(words, data, pieces):
         return program.stdout.read()
 
 
+def inputs_of(program):
+    """A name, the input, and the number."""
+    if program == "passage_panel":
+        return passage_inputs()
+    return ((vector.name, vector.given["input"], vector.answer["number"]) for vector in vectors() if vector.call == program)
+
+
 def runs(program):
     """A name, the input, in how many pieces it is given, and the number. The first input of each number is given in pieces too."""
     seen = set()
-    for vector in vectors():
-        if vector.call == program:
-            data, number = vector.given["input"], vector.answer["number"]
-            first = number not in seen and len(data) >= IN_PIECES
-            seen |= {number} if first else set()
-            for pieces in (1, *PIECES) if first or len(data) > 17000 else (1,):
-                yield f"{vector.name}, in {pieces} pieces" if pieces > 1 else vector.name, data, pieces, number
+    for name, data, number in inputs_of(program):
+        first = number not in seen and len(data) >= IN_PIECES
+        seen |= {number} if first else set()
+        for pieces in (1, *PIECES) if first or len(data) > 17000 else (1,):
+            yield f"{name}, in {pieces} pieces" if pieces > 1 else name, data, pieces, number
 
 
 def agrees(program, words, name, data, pieces, number):
@@ -69,14 +79,16 @@ def self_test(program, words):
 def main():
     parser = argparse.ArgumentParser(description=__doc__, formatter_class=argparse.RawDescriptionHelpFormatter)
     parser.add_argument("--self-test", action="store_true", help="only try that a wrong number is noticed")
-    parser.add_argument("program", choices=("panel", "keyed_panel"), help="which program it is")
+    parser.add_argument("program", choices=("panel", "keyed_panel", "passage_panel"), help="which program it is")
     parser.add_argument("words", nargs=argparse.REMAINDER, help="what starts the program")
     given = parser.parse_args()
     noticed = self_test(given.program, given.words)
     if not noticed or given.self_test:
         return noticed
-    results = [agrees(given.program, given.words, *run) for run in runs(given.program)]
-    numbers = sorted({number for _, _, _, number in runs(given.program)})
+    tried = list(runs(given.program))
+    with ThreadPoolExecutor(AT_ONCE) as pool:
+        results = list(pool.map(lambda run: agrees(given.program, given.words, *run), tried))
+    numbers = sorted({number for _, _, _, number in tried})
     print(f"{given.program}: {results.count(True)} of {len(results)} verdicts agree, with the numbers {' '.join(map(str, numbers))}")
     return all(results)
 

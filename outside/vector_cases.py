@@ -5,11 +5,14 @@ from pathlib import Path
 
 from bridge import Answer, refused
 from calls import (add_case, append_case, begin_case, check_case, cut_case, digest_case, end_case, find_case, inner_case, leaf_case, many_case,
-                   mode_bytes, mode_keyed_case, mode_plain_case, number_case, read_case, root_case, state_bytes, u32, u64, write_case)
+                   mode_bytes, mode_keyed_case, mode_plain_case, number_case, passage_check_case, passage_entries_case, passage_entry_case,
+                   passage_find_case, passage_write_case, read_case, root_case, state_bytes, u32, u64, u64s, write_case)
 
 VECTORS = Path(__file__).resolve().parent.parent / "vectors"
 PUBLISHED, PUBLISHED_KEY = "blake3-published.txt", b"whats the Elvish word for friend"
 NODE = 32
+# The words of a finder, as C has them.
+WORDS = {"same": 1, "records": 2, "pair": 3}
 # A vector: its file, its name, the call, what is given and the answer, with bytes and numbers as Python has them.
 Vector = namedtuple("Vector", "file name call given answer")
 
@@ -36,11 +39,11 @@ def each(kind):
 # What the fields hold, where it is not bytes.
 KINDS = {
     **dict.fromkeys(("number", "size", "new_size", "hashes", "leaves", "index", "position", "record_at", "room", "first_room",
-                     "second_room", "keyed"), int),
-    **dict.fromkeys(("sizes", "hashes_each", "lengths"), each(int)),
+                     "second_room", "keyed", "count", "place", "indexes_room", "starts_room", "lengths_room"), int),
+    **dict.fromkeys(("sizes", "hashes_each", "lengths", "indexes", "starts"), each(int)),
     **dict.fromkeys(("records", "roots"), each(octets)),
     **dict.fromkeys(("kind", "found"), str),
-    "items": each(each(int)),
+    **dict.fromkeys(("items", "digests"), each(each(int))),
     "state": state_in,
 }
 
@@ -165,7 +168,35 @@ def check_asked(given, answer):
 def find_asked(given, answer):
     rooms = given["first_room"], given["second_room"]
     case = find_case(given["size"], given["nodes"], given["record"], given["letter"], rooms, mode_in(given))
-    return asked_once(case, answer, lambda: [u32({"same": 1, "records": 2, "pair": 3}[answer["found"]])])
+    return asked_once(case, answer, lambda: [u32(WORDS[answer["found"]])])
+
+
+def passage_write_asked(given, answer):
+    case = passage_write_case(given["size"], given["indexes"], given["joined"], given["lengths"], given["nodes"], given["room"], mode_in(given))
+    return asked_once(case, answer, lambda: [filled(case.parts[-2], answer["letter"]), u64(len(answer["letter"]))])
+
+
+def passage_check_asked(given, answer):
+    case = passage_check_case(given["size"], given["root"], given["letter"], mode_in(given))
+    return asked_once(case, answer, lambda: [u64(answer["count"])])
+
+
+def passage_entry_asked(given, answer):
+    case = passage_entry_case(given["size"], given["root"], given["letter"], given["place"], mode_in(given))
+    return asked_once(case, answer, lambda: [u64(answer["index"]), u64(answer["record_at"]), u64(len(answer["record"]))])
+
+
+def passage_entries_asked(given, answer):
+    rooms = given["indexes_room"], given["starts_room"], given["lengths_room"]
+    case = passage_entries_case(given["size"], given["root"], given["letter"], rooms, mode_in(given))
+    lists = [u64s(answer.get(name, ())) for name in ("indexes", "starts", "lengths")]
+    return asked_once(case, answer, lambda: [*map(filled, case.parts[3:6], lists), u64(len(answer["indexes"]))])
+
+
+def passage_find_asked(given, answer):
+    rooms = given["first_room"], given["second_room"]
+    case = passage_find_case(given["size"], given["nodes"], given["joined"], given["lengths"], given["letter"], rooms, mode_in(given))
+    return asked_once(case, answer, lambda: [u32(WORDS[answer["found"]]), u64(answer["index"])])
 
 
 def written_asked(case, answer):
@@ -210,6 +241,11 @@ ASKED = {
     "store_leaf": leaf_asked,
     "store_inner": inner_asked,
     "read_node": read_asked,
+    "passage_write": passage_write_asked,
+    "passage_check": passage_check_asked,
+    "passage_entry": passage_entry_asked,
+    "passage_entries": passage_entries_asked,
+    "passage_find": passage_find_asked,
 }
 # Vectors that no call of the library answers, and why.
 UNASKED = dict.fromkeys(("panel", "keyed_panel"), "outside/panel.sh runs the program on them")

@@ -32,16 +32,15 @@ def folded(bridge, nodes, mode):
     return so_far
 
 
-def wrong_items(bridge, given, answer):
-    """What is wrong with the positions that a vector has for the items of its letter."""
-    nodes, items = given["nodes"], answer["items"]
-    start = len(answer["letter"]) - NODE * len(items)
-    if start != 20 + len(given["record"]):
-        yield f"items: {len(items)} positions, which are not as many as the letter has"
+def wrong_items(bridge, given, answer, name, before):
+    """What is wrong with the positions that a vector has for the items of its letter, or the digests of its passage, behind so many bytes."""
+    nodes, items = given["nodes"], answer[name]
+    if len(answer["letter"]) - NODE * len(items) != before:
+        yield f"{name}: {len(items)} positions, which are not as many as the letter has"
     for place, positions in enumerate(items):
-        shown = answer["letter"][start + NODE * place:][:NODE]
+        shown = answer["letter"][before + NODE * place:][:NODE]
         if folded(bridge, [nodes[NODE * position:][:NODE] for position in positions], mode_in(given)) != shown:
-            yield f"items: item {place} of the letter is not what stands at {positions}"
+            yield f"{name}: number {place} of the letter is not what stands at {positions}"
 
 
 def wrong_within(bridge, vector):
@@ -49,11 +48,13 @@ def wrong_within(bridge, vector):
     given, answer = vector.given, vector.answer
     if answer["number"] != 0:
         return
-    whole = given.get("letter" if vector.call == "letter_check" else "node", b"")
+    whole = given.get("node" if vector.call == "read_node" else "letter", b"")
     if "record_at" in answer and whole[answer["record_at"]:][:len(answer["record"])] != answer["record"]:
         yield "record: it is not the part that it is said to be"
     if "items" in answer:
-        yield from wrong_items(bridge, given, answer)
+        yield from wrong_items(bridge, given, answer, "items", 20 + len(given["record"]))
+    if "digests" in answer:
+        yield from wrong_items(bridge, given, answer, "digests", 10 + 12 * len(given["indexes"]) + len(given["joined"]))
 
 
 def wrong_lines(bridge, at, vector):

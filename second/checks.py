@@ -9,6 +9,7 @@ from expected.given import KEYS, LEAGUES, counting_bytes, flips_of, letter_in, l
 from grown import grown
 from page import check_page
 from parts import check_parts, in_parts
+from passages import check_passages
 from portable.orders import check_orders
 from review import check_review
 from rules.blake3 import PLAIN, Mode, digest, keyed
@@ -20,6 +21,7 @@ from rules.plain import plain_items
 from rules.shape import MOST_LEAVES, items_of, leaf_count, leaf_position, nodes_of, size_of, trailing_ones
 from stored import check_stored
 from table import check_numbers
+from wrong_passages import check_wrong_passages
 
 PUBLISHED = Path(__file__).resolve().parent.parent / "vectors" / "blake3-published.txt"
 # The modes that the rules are tried in, by name.
@@ -235,6 +237,8 @@ def check():
     good &= check_stored()
     good &= check_leagues(4)
     good &= check_finder(9)
+    good &= check_passages()
+    good &= check_wrong_passages()
     good &= check_orders()
     good &= check_items()
     good &= check_numbers()

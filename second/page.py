@@ -4,23 +4,23 @@ import re
 from pathlib import Path
 
 from expected.given import KEYS, LEAGUES, counting_bytes
-from grown import grown
+from page_passages import passage_bytes_shown, passage_order_rows, passage_rows, passage_sentences, passages_as_said
 from portable.orders import FROM_7, ORDERS
 from rules.batch import append_many
 from rules.blake3 import BLOCK, CHUNK, KEY, PLAIN, Mode, bytes_of, digest, keyed, words_of
-from rules.letters import PANEL_HEAD, PANEL_MOST, WHOLE_LETTER, check_letter, keyed_panel, letter_bytes, letter_of, panel
+from rules.letters import PANEL_HEAD, PANEL_MOST, WHOLE_LETTER, check_letter, keyed_panel, letter_bytes, panel
 from rules.log import LONGEST_RECORD, NODE, append, node, root
 from rules.parts import MOST_BYTES, PLACES, WORDS, State, add, begin, end, finished, held_of, stacked_of
 from rules.plain import largest_power
 from rules.shape import MOST_LEAVES, items_of, leaf_count, leaf_position, nodes_of, size_of
 from rules.stored import read_stored, stored_inner, stored_leaf
+from shown import RECORDS, fold_said, shown_letter, small_log, with_comma, with_last_bit
 
 TOP = Path(__file__).resolve().parent.parent
 PAGE = TOP / "docs" / "RULES.md"
 # Where sections are cited.
 CITING = ("second/**/*.py", "outside/**/*.[pc]*", "vectors/*", "include/*.h", "hosts/*.[chp]*", "README.md", "docs/*.md", "crates/**/*.md",
           "crates/**/*.rt", "crates/**/*.antt")
-RECORDS = (b"goal", b"no goal", b"corner")
 # Section 7.7: the size, the joined records, the lengths, the bytes of the buffer. The longer record is zeros.
 FULL, LONGER = nodes_of(MOST_LEAVES), bytes(LONGEST_RECORD + 1)
 BATCHES = (
@@ -46,26 +46,9 @@ EDITED = b"foul"
 ITEMS = (("", 1, 0), ("", 2, 1), ("", 3, 2), ("M14", 5, 2), ("M15", 7, 4), ("M16", 7, 0), ("", 8, 3), ("", 11, 9))
 
 
-def small_log(mode=PLAIN):
-    """The log of section 7.6 in a mode: its nodes, and the answers of its appends."""
-    made = list(grown(RECORDS, mode))
-    return bytes(made[-1][1]), [answer for answer, _ in made]
-
-
-def shown_letter(mode=PLAIN):
-    """The root of that log, and its letter of section 9.7."""
-    nodes, _ = small_log(mode)
-    return root(4, nodes, mode).root, letter_of(4, 1, RECORDS[1], nodes, mode)
-
-
 def noted(mode=PLAIN):
     """The size and the root of that log, as the panel's program reads them."""
     return (4).to_bytes(8, "big") + shown_letter(mode)[0]
-
-
-def with_comma(numbers):
-    """Numbers with commas between them."""
-    return ", ".join(f"{number:,}" for number in numbers)
 
 
 def shape_rows():
@@ -113,8 +96,7 @@ def state_rows():
 def item_rows():
     """The rows of section 9.3."""
     for name, leaves, index in ITEMS:
-        said = [str(*item) if len(item) == 1 else f"the fold of {' and '.join(map(str, item))}" for item in items_of(leaves, index)]
-        yield f"| {name + ' ' if name else ''}| {leaves} | {index} | {', '.join(said) or 'none'} |"
+        yield f"| {name + ' ' if name else ''}| {leaves} | {index} | {', '.join(map(fold_said, items_of(leaves, index))) or 'none'} |"
 
 
 def batch_done(batch, mode=PLAIN):
@@ -137,11 +119,6 @@ def batch_rows():
         (size, records, lengths, room), (answer, _) = batch, batch_done(batch)
         said = f"done, size {answer.size:,}, count {answer.hashes}" if answer.number == 0 else f"number {answer.number}"
         yield f"| {size:,} | {joined_said(records)} | {with_comma(lengths) or 'none'} | {room} | {said} |"
-
-
-def with_last_bit(data, place):
-    """Bytes with the last bit of one of them changed."""
-    return data[:place] + bytes([data[place] ^ 1]) + data[place + 1:]
 
 
 def edited_leaves():
@@ -243,6 +220,7 @@ def example_bytes():
     yield from (keyed(bytes(KEY)).mode(b""), stored_leaf(RECORDS[0]), stored_inner(node(nodes, 2)), *edited_leaves(), WHOLE_LETTER)
     yield from (noted(), KEYS[0] + noted(LEAGUES[0]))
     yield from (letter for letter, _, _, _ in forgeries(nodes))
+    yield from passage_bytes_shown()
 
 
 def keyed_as_said():
@@ -296,8 +274,9 @@ def examples_stand(page):
     """Look for each example in the page, and for digests in it that are none."""
     lines, squeezed = " ".join(page.split()), "".join(page.split())
     made = [data.hex() for data in example_bytes()]
-    rows = (*order_rows(), *field_rows(), *count_rows(), *state_rows(), *shape_rows(), *batch_rows(), *stored_rows(), *item_rows())
-    wanted = [(text, lines) for text in (*rows, *sentences())] + [(text, squeezed) for text in made]
+    rows = (*order_rows(), *field_rows(), *count_rows(), *state_rows(), *shape_rows(), *batch_rows(), *stored_rows(), *item_rows(),
+            *passage_order_rows(), *passage_rows())
+    wanted = [(text, lines) for text in (*rows, *sentences(), *passage_sentences())] + [(text, squeezed) for text in made]
     missing = [text for text, where in wanted if text not in where]
     foreign = [found for found in re.findall("[0-9a-f]{64}", page) if not any(found in one for one in made)]
     for text in missing:
@@ -328,7 +307,7 @@ def citations_stand(page):
 
 def check_page():
     """Its examples, the numbers that it gives them, and what cites it."""
-    page, told = PAGE.read_text(), as_said() and keyed_as_said() and parts_as_said() and batches_as_said()
+    page, told = PAGE.read_text(), as_said() and keyed_as_said() and parts_as_said() and batches_as_said() and passages_as_said()
     if not told:
         print("rules: an example of docs/RULES.md has another number than the page says")
     good = examples_stand(page)

@@ -5,10 +5,10 @@ import re
 from pathlib import Path
 
 from expected.given import run_record
-from page import RECORDS, shown_letter, small_log
 from rules.blake3 import PLAIN
 from rules.log import node
 from rules.plain import largest_power, plain_root
+from shown import RECORDS, shown_letter, small_log
 
 REVIEW = Path(__file__).resolve().parent.parent / "docs" / "REVIEW.md"
 LINES = 10

@@ -6,7 +6,7 @@ implementers, in portable/.
 
     second.py check                    try the rules on published figures and marked examples, and on each other
     second.py expect NAME              print what the program crates/NAME must write
-    second.py expect --all             write what each program must write to crates/NAME/stdout, and what the panels' programs read to their stdin
+    second.py expect --all             write what each program must write to crates/NAME/stdout, and what programs read to their stdin
     second.py expect --all --verify    compare those files, and change none
     second.py vectors                  write the portable test vectors, vectors/*.json
     second.py vectors --verify         compare those files, and change none
@@ -25,6 +25,8 @@ from expected.letter_run import expect_letter_run
 from expected.log_run import expect_log_run
 from expected.panel import expect_panel, panel_stdin
 from expected.parts_run import expect_parts_run
+from expected.passage_panel import expect_passage_panel, passage_panel_stdin
+from expected.passage_run import expect_passage_run, passage_run_stdin
 from expected.shape_run import expect_shape_run
 from expected.stored_run import expect_stored_run
 from portable.files import verify_vectors, write_vectors
@@ -40,6 +42,8 @@ EXPECTED = {
     "log_run": expect_log_run,
     "panel": expect_panel,
     "parts_run": expect_parts_run,
+    "passage_panel": expect_passage_panel,
+    "passage_run": expect_passage_run,
     "shape_run": expect_shape_run,
     "stored_run": expect_stored_run,
 }
@@ -47,6 +51,8 @@ EXPECTED = {
 STORED = {f"crates/{name}/stdout": lambda made=made: made().encode() for name, made in EXPECTED.items()}
 STORED["crates/panel/stdin"] = panel_stdin
 STORED["crates/keyed_panel/stdin"] = keyed_panel_stdin
+STORED["crates/passage_panel/stdin"] = passage_panel_stdin
+STORED["crates/passage_run/stdin"] = passage_run_stdin
 
 
 def expect_one(name):

@@ -46,13 +46,29 @@ demand_cc() {
     [ -z "${CC-}" ] || command -v "${CC%% *}" >/dev/null 2>&1 || die "CC is ${CC%% *}, and there is no such command"
 }
 
-# static_library CRATE: proves the crate where that is not done, and writes its archive. Wants shell/built.sh and its lock.
+# rt_library CRATE: proves the crate where that is not done, and writes its archive
+rt_library() {
+    say "proving and building the library $1, which takes some minutes the first time"
+    (cd "$top" && rt staticlib "$1") >"$work/rt.log" 2>&1 </dev/null || { cat "$work/rt.log" >&2; die "$1 was not built"; }
+}
+
+# join_library CRATE: puts the object of that crate into the archive too. An archive exports the calls of its own crate alone, and what its object has
+# beside them is seen by no other, so that several objects lie in one archive.
+join_library() {
+    rt_library "$1"
+    (cd "$work" && "$tools/bin/llvm-ar" x "$top/target/staticlib/lib$1.a" "$1.o" && "$tools/bin/llvm-ar" rs "$archive" "$1.o") || die "$1 was not joined"
+}
+
+# the crates beside the keeper whose calls its archive has
+library_parts='stored_c letter_c parts_c passage_c'
+
+# static_library CRATE: the archive of that crate, and for the keeper the calls of those beside it. Wants shell/built.sh and its lock, and the kit.
 static_library() {
     archive=$top/target/staticlib/lib$1.a
     ! is_built "target/staticlib/lib$1.a" crates crates.txt -name must-fail -prune -o || return 0
     library_sum=$(sum_of crates crates.txt -name must-fail -prune -o)
-    say "proving and building the library $1, which takes some minutes the first time"
-    (cd "$top" && rt staticlib "$1") >"$work/rt.log" 2>&1 </dev/null || { cat "$work/rt.log" >&2; die "$1 was not built"; }
+    rt_library "$1"
+    [ "$1" != keeper ] || for part in $library_parts; do join_library "$part"; done
     was_built "target/staticlib/lib$1.a" "$library_sum"
 }
 

@@ -9,6 +9,9 @@ panel <NOTED-AND-LETTER
     keeper root LOG --bytes >NOTED; cat NOTED LETTER | panel
 panel --key FILE <NOTED-AND-LETTER
     the same for a keyed log, by its key: a file of exactly 32 bytes, else the number is 24.
+panel --passage <NOTED-AND-PASSAGE
+    the same for a passage letter, of a log without a key. Without --passage it gets 5, and with it a letter of one record gets 19.
+    A passage of a keyed log is checked by keeper check --key.
 panel -h, panel --version
 Exit status: 0 with a number, whatever it is; 2 where there is none, or it could not be written.
 END
@@ -41,8 +44,9 @@ keyed_verdict() {
     esac
 }
 
+# plain_verdict NAME: the verdict by that program, which reads standard input as it is
 plain_verdict() {
-    build panel
+    build "$1"
     verdict=$(with_program) || { echo "panel: the program could not be run" >&2; return 2; }
 }
 
@@ -53,12 +57,24 @@ panel() {
     --version) echo "panel (Cinchcleat) $version"; return ;;
     esac
     key=
-    case ${1-} in
-    --key=?*) key=${1#--key=}; shift ;;
-    --key) [ -z "${2-}" ] || { key=$2; shift 2; } ;;
-    esac
+    name=panel
+    while [ $# != 0 ]; do
+        case $1 in
+        --passage) [ "$name" = panel ] || break; name=passage_panel; shift ;;
+        --key=?*) [ -z "$key" ] || break; key=${1#--key=}; shift ;;
+        --key) { [ -z "$key" ] && [ -n "${2-}" ]; } || break; key=$2; shift 2 ;;
+        *) break ;;
+        esac
+    done
     [ $# = 0 ] || { panel_usage >&2; return 2; }
-    if [ -n "$key" ]; then keyed_verdict "$key" || return; else plain_verdict || return; fi
+    if [ -z "$key" ]; then
+        plain_verdict "$name" || return
+    elif [ "$name" = panel ]; then
+        keyed_verdict "$key" || return
+    else
+        echo "panel: no program of the panels checks a passage of a keyed log: keeper check --key FILE does" >&2
+        return 2
+    fi
     case $verdict in '' | *[!0-9]*) echo "panel: no verdict" >&2; return 2 ;; esac
     # what the shell itself says of a stream that cannot be written is not for a person
     (printf '%s\n' "$verdict") 2>/dev/null || { echo "panel: the verdict could not be written" >&2; return 2; }

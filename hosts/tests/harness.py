@@ -23,7 +23,7 @@ TOP = Path(__file__).resolve().parent.parent.parent
 sys.path.insert(0, str(TOP / "second"))
 from expected.given import run_record  # noqa: E402
 from grown import log_of  # noqa: E402
-from rules import letters, log, shape  # noqa: E402, F401
+from rules import letters, log, passages, shape  # noqa: E402, F401
 from rules.blake3 import PLAIN, digest, keyed  # noqa: E402
 from rules.log import LONGEST_RECORD, NODE  # noqa: E402, F401
 from rules.plain import plain_root  # noqa: E402, F401
@@ -86,9 +86,21 @@ def letter_of(records, index, key=KEY):
     return letters.letter_of(size, index, records[index], nodes, **by(key))
 
 
+def passage_of(records, indexes, key=KEY):
+    """The second program's passage letter."""
+    size, _, nodes = said_of(records, key)
+    return passages.passage_of(size, indexes, [records[index] for index in indexes], nodes, **by(key))
+
+
+def is_passage(letter):
+    """Which kind of letter it is: bytes 8 and 9 are 0 in a letter of one record."""
+    return len(letter) >= passages.PASSAGE_HEAD and any(letter[8:passages.PASSAGE_HEAD])
+
+
 def number_of(size, top, letter, key=KEY):
-    """The second program's number on a letter."""
-    return letters.check_letter(size, top, letter, **by(key)).number
+    """The second program's number on a letter of either kind."""
+    check = passages.check_passage if is_passage(letter) else letters.check_letter
+    return check(size, top, letter, **by(key)).number
 
 
 def sealed(size, root, key=KEY):

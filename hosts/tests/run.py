@@ -13,8 +13,8 @@ import time
 from concurrent.futures import ThreadPoolExecutor
 
 
-DIGESTS = ("test_append", "test_check", "test_letters", "test_page", "test_plain")
-FILES = ("test_damage", "test_hostile", "test_records")
+DIGESTS = ("test_append", "test_check", "test_letters", "test_page", "test_passage", "test_plain")
+FILES = ("test_damage", "test_hostile", "test_passage_check", "test_records")
 CRASHES = ("test_crashes",)
 
 

@@ -429,3 +429,200 @@ uint32_t keeper_find(const keeper_mode *mode, uint64_t size, const uint8_t *node
     *found = KEEPER_SAME;
     return KEEPER_DONE;
 }
+
+/* ---- passage letters */
+
+enum { PASSAGE = 10, ENTRY = 12, MOST = 256 };
+
+/* What a passage letter names, and the digests behind it. */
+typedef struct {
+    size_t count;
+    uint64_t indexes[MOST], starts[MOST], lengths[MOST];
+    const uint8_t *digests;
+} Named;
+
+/* The largest power of two below a number of leaves: so many stand on the left. */
+static uint64_t left_of(uint64_t count) {
+    uint64_t left = 1;
+    while (2 * left < count) left *= 2;
+    return left;
+}
+
+static size_t below(const uint64_t *indexes, size_t count, uint64_t end) {
+    size_t k = 0;
+    while (k < count && indexes[k] < end) k++;
+    return k;
+}
+
+static void take_digest(const keeper_mode *mode, uint64_t leaves, uint64_t first, uint64_t count, const uint8_t *nodes, uint8_t *out) {
+    if (count & (count - 1)) fold_from(mode, leaves, first, nodes, out);
+    else memcpy(out, nodes + NODE * place(first, (unsigned)__builtin_ctzll(count)), NODE);
+}
+
+/* The digests that a letter needs for the leaves from the first on: how many; and where there are nodes, themselves. */
+static size_t give(const keeper_mode *mode, uint64_t leaves, uint64_t first, uint64_t count, const uint64_t *indexes, size_t asked,
+                   const uint8_t *nodes, uint8_t *out) {
+    if (asked == 0 && nodes) take_digest(mode, leaves, first, count, nodes, out);
+    if (asked == 0 || count == 1) return asked == 0;
+    uint64_t left = left_of(count);
+    size_t k = below(indexes, asked, first + left), done = give(mode, leaves, first, left, indexes, k, nodes, out);
+    return done + give(mode, leaves, first + left, count - left, indexes + k, asked - k, nodes, out ? out + NODE * done : NULL);
+}
+
+static uint32_t list_refusal(const uint64_t *indexes, size_t count) {
+    if (count == 0 || count > MOST) return KEEPER_NOT_RISING;
+    for (size_t k = 1; k < count; k++)
+        if (indexes[k] <= indexes[k - 1]) return KEEPER_NOT_RISING;
+    return KEEPER_DONE;
+}
+
+/* Of each record in turn 5 and 3, and where there are nodes 13. */
+static uint32_t records_refusal(const keeper_mode *mode, uint64_t leaves, const uint64_t *indexes, const uint8_t *records, const uint32_t *lengths,
+                                size_t count, const uint8_t *nodes) {
+    uint8_t leaf[NODE];
+    for (size_t k = 0; k < count; records += lengths[k++]) {
+        if (indexes[k] >= leaves) return KEEPER_NO_SUCH_LEAF;
+        if (lengths[k] > LONGEST) return KEEPER_RECORD_TOO_LONG;
+        if (!nodes) continue;
+        digest(mode, records, lengths[k], leaf);
+        if (memcmp(leaf, nodes + NODE * size_of(indexes[k]), NODE) != 0) return KEEPER_OTHER_RECORD;
+    }
+    return KEEPER_DONE;
+}
+
+static void put_passage(uint64_t size, const uint64_t *indexes, const uint8_t *records, const uint32_t *lengths, size_t count, uint8_t *out) {
+    put_number(out, 8, size), put_number(out + 8, 2, count), out += PASSAGE;
+    for (size_t k = 0; k < count; records += lengths[k++]) {
+        put_number(out, 8, indexes[k]), put_number(out + 8, 4, lengths[k]);
+        if (lengths[k] > 0) memcpy(out + ENTRY, records, lengths[k]);
+        out += ENTRY + lengths[k];
+    }
+}
+
+uint32_t keeper_passage_write(const keeper_mode *mode, uint64_t size, const uint64_t *indexes, size_t indexes_count, const uint8_t *records,
+                              size_t records_len, const uint32_t *lengths, size_t lengths_count, const uint8_t *nodes, size_t nodes_len, uint8_t *out,
+                              size_t out_len, size_t *length) {
+    uint64_t leaves;
+    if (keeper_leaf_count(size, &leaves) != KEEPER_DONE) return KEEPER_NO_SUCH_SIZE;
+    if (list_refusal(indexes, indexes_count) != KEEPER_DONE) return KEEPER_NOT_RISING;
+    if (lengths_count != indexes_count || !add_up_to(lengths, lengths_count, records_len)) return KEEPER_LENGTHS_OFF;
+    uint32_t number = records_refusal(mode, leaves, indexes, records, lengths, lengths_count, NULL);
+    if (number == KEEPER_DONE && nodes_len / NODE < size) number = KEEPER_NODES_TOO_SHORT;
+    if (number == KEEPER_DONE) number = records_refusal(mode, leaves, indexes, records, lengths, lengths_count, nodes);
+    if (number != KEEPER_DONE) return number;
+    size_t behind = PASSAGE + ENTRY * indexes_count + records_len;
+    size_t wanted = behind + NODE * give(mode, leaves, 0, leaves, indexes, indexes_count, NULL, NULL);
+    if (out_len < wanted) return KEEPER_OUTPUT_TOO_SHORT;
+    put_passage(size, indexes, records, lengths, indexes_count, out);
+    give(mode, leaves, 0, leaves, indexes, indexes_count, nodes, out + behind);
+    *length = wanted;
+    return KEEPER_DONE;
+}
+
+/* The fields of one record, from a place on. */
+static uint32_t take_entry(uint64_t leaves, const uint8_t *letter, size_t letter_len, size_t at, size_t k, Named *named) {
+    if (letter_len - at < ENTRY) return KEEPER_NOT_A_LETTER;
+    named->indexes[k] = number_at(letter + at, 8);
+    named->starts[k] = at + ENTRY;
+    named->lengths[k] = number_at(letter + at + 8, 4);
+    if (k > 0 && named->indexes[k] <= named->indexes[k - 1]) return KEEPER_NOT_RISING;
+    if (named->indexes[k] >= leaves) return KEEPER_NO_SUCH_LEAF;
+    if (named->lengths[k] > LONGEST) return KEEPER_RECORD_TOO_LONG;
+    return letter_len - named->starts[k] < named->lengths[k] ? KEEPER_NOT_A_LETTER : KEEPER_DONE;
+}
+
+static uint32_t take_entries(const keeper_mode *mode, uint64_t size, uint64_t leaves, const uint8_t *letter, size_t letter_len, Named *named) {
+    size_t at = PASSAGE;
+    uint32_t number;
+    if (letter_len < PASSAGE) return KEEPER_NOT_A_LETTER;
+    if (number_at(letter, 8) != size) return KEEPER_OTHER_SIZE;
+    named->count = (size_t)number_at(letter + 8, 2);
+    if (named->count == 0 || named->count > MOST) return KEEPER_NOT_RISING;
+    for (size_t k = 0; k < named->count; at = named->starts[k] + named->lengths[k], k++)
+        if ((number = take_entry(leaves, letter, letter_len, at, k, named)) != KEEPER_DONE) return number;
+    named->digests = letter + at;
+    size_t digests = give(mode, leaves, 0, leaves, named->indexes, named->count, NULL, NULL);
+    return letter_len - at == NODE * digests ? KEEPER_DONE : KEEPER_NOT_A_LETTER;
+}
+
+/* The digest of the leaves from the first on, as the letter has it, of its records from one to another; the digests that it needs are taken off. */
+static void work_out_part(const keeper_mode *mode, uint64_t first, uint64_t count, const uint8_t *letter, Named *named, size_t from, size_t to,
+                          uint8_t out[NODE]) {
+    uint8_t right[NODE];
+    if (from == to) {
+        memcpy(out, named->digests, NODE);
+        named->digests += NODE;
+    } else if (count == 1) {
+        digest(mode, letter + named->starts[from], (size_t)named->lengths[from], out);
+    } else {
+        uint64_t left = left_of(count);
+        size_t middle = from + below(named->indexes + from, to - from, first + left);
+        work_out_part(mode, first, left, letter, named, from, middle, out);
+        work_out_part(mode, first + left, count - left, letter, named, middle, to, right);
+        digest_pair(mode, out, right, out);
+    }
+}
+
+/* From 7 on. */
+static uint32_t check_passage(const keeper_mode *mode, uint64_t size, const uint8_t *root, const uint8_t *letter, size_t letter_len, Named *named) {
+    uint64_t leaves = 0;
+    uint8_t top[NODE];
+    keeper_leaf_count(size, &leaves);
+    uint32_t number = take_entries(mode, size, leaves, letter, letter_len, named);
+    if (number != KEEPER_DONE) return number;
+    work_out_part(mode, 0, leaves, letter, named, 0, named->count, top);
+    return memcmp(top, root, NODE) == 0 ? KEEPER_DONE : KEEPER_OTHER_ROOT;
+}
+
+uint32_t keeper_passage_entries(const keeper_mode *mode, uint64_t size, const uint8_t *root, size_t root_len, const uint8_t *letter,
+                                size_t letter_len, uint64_t *indexes, size_t indexes_count, uint64_t *starts, size_t starts_count,
+                                uint64_t *lengths, size_t lengths_count, uint64_t *count) {
+    static Named named;
+    uint64_t leaves;
+    if (keeper_leaf_count(size, &leaves) != KEEPER_DONE) return KEEPER_NO_SUCH_SIZE;
+    if (root_len != NODE) return KEEPER_NOT_A_DIGEST;
+    uint32_t number = check_passage(mode, size, root, letter, letter_len, &named);
+    if (number != KEEPER_DONE) return number;
+    if (indexes_count < named.count || starts_count < named.count || lengths_count < named.count) return KEEPER_OUTPUT_TOO_SHORT;
+    memcpy(indexes, named.indexes, sizeof *indexes * named.count);
+    memcpy(starts, named.starts, sizeof *starts * named.count);
+    memcpy(lengths, named.lengths, sizeof *lengths * named.count);
+    *count = named.count;
+    return KEEPER_DONE;
+}
+
+/* Whether a node above an asked leaf, within its peak, is not the digest of its two children. */
+static int is_broken(const keeper_mode *mode, uint64_t first, uint64_t count, const uint64_t *indexes, size_t asked, const uint8_t *nodes) {
+    uint8_t own[NODE];
+    if (asked == 0 || count == 1) return 0;
+    uint64_t left = left_of(count);
+    size_t k = below(indexes, asked, first + left);
+    if ((count & (count - 1)) == 0) {
+        const uint8_t *parent = nodes + NODE * place(first, (unsigned)__builtin_ctzll(count));
+        digest_pair(mode, parent - NODE * count, parent - NODE, own);
+        if (memcmp(own, parent, NODE) != 0) return 1;
+    }
+    return is_broken(mode, first, left, indexes, k, nodes) || is_broken(mode, first + left, count - left, indexes + k, asked - k, nodes);
+}
+
+/* As of keeper_find, a letter that is accepted is the log's own here. */
+uint32_t keeper_passage_find(const keeper_mode *mode, uint64_t size, const uint8_t *nodes, size_t nodes_len, const uint8_t *records,
+                             size_t records_len, const uint32_t *lengths, size_t lengths_count, const uint8_t *letter, size_t letter_len,
+                             uint8_t *first, size_t first_len, uint8_t *second, size_t second_len, uint32_t *found, uint64_t *index) {
+    static Named named;
+    uint8_t top[NODE];
+    uint64_t leaves = 0;
+    (void)first, (void)second;
+    uint32_t number = keeper_root(mode, size, nodes, nodes_len, top, NODE);
+    if (number == KEEPER_DONE) number = check_passage(mode, size, top, letter, letter_len, &named);
+    if (number != KEEPER_DONE) return number;
+    if (lengths_count != named.count || !add_up_to(lengths, lengths_count, records_len)) return KEEPER_LENGTHS_OFF;
+    keeper_leaf_count(size, &leaves);
+    number = records_refusal(mode, leaves, named.indexes, records, lengths, lengths_count, nodes);
+    if (number != KEEPER_DONE) return number;
+    if (is_broken(mode, 0, leaves, named.indexes, named.count, nodes)) return KEEPER_DAMAGED_NODES;
+    if (first_len < BLOCK || second_len < BLOCK) return KEEPER_OUTPUT_TOO_SHORT;
+    *found = KEEPER_SAME;
+    *index = 0;
+    return KEEPER_DONE;
+}

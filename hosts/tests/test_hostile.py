@@ -2,19 +2,23 @@
 import random
 import unittest
 
-from harness import CHECKED, COPY, FEWER, NODE, NODES, PAGE, RECORDS, SEALED, HostTest, keeper, letter_of, nodes_of, number_of, said_of, sealed, stream_of
+from harness import (CHECKED, COPY, FEWER, NODE, NODES, PAGE, RECORDS, SEALED, HostTest, is_passage, keeper, letter_of, nodes_of, number_of,
+                     passage_of, said_of, sealed, stream_of)
 
 
 class Hostile(HostTest):
     def tried(self, path, records):
         """Every command on such a file: no crash, and nothing that goes out is false."""
-        for words in (("root",), ("root", "--records"), ("info",), ("verify",), ("verify", "--records"), ("letter", "1"), ("append",),
-                      ("repair", self.folder / "copy")):
+        for words in (("root",), ("root", "--records"), ("info",), ("verify",), ("verify", "--records"), ("letter", "1"), ("passage", "1", "-"),
+                      ("passage", "--records", "1", "3"), ("append",), ("repair", self.folder / "copy")):
             ran = keeper(words[0], path, *words[1:], given=RECORDS[1])
             self.assertIn(ran.returncode, (0, 1, 2), (words, ran.returncode, ran.stderr))
             self.assertNotIn(b"Sanitizer", ran.stderr)
             if words[0] == "letter" and ran.returncode == 0:
                 self.assertIn(ran.stdout, [letter_of(records[:count], 1) for count in range(2, len(records) + 1)])
+            if words[0] == "passage" and ran.returncode == 0:
+                indexes = (1, 3) if "--records" in words else (1,)
+                self.assertIn(ran.stdout, [passage_of(records[:count], indexes) for count in range(indexes[-1] + 1, len(records) + 1)])
             if words == ("root", "--records") and ran.returncode == 0:
                 self.assertIn(ran.stdout.split()[1].decode(), [said_of(records[:count])[1].hex() for count in range(1, len(records) + 1)])
         (self.folder / "copy").unlink(missing_ok=True)
@@ -58,13 +62,15 @@ class Hostile(HostTest):
     def test_letters(self):
         """Random letters: no crash in what shows them, and none is accepted that the second program refuses."""
         chance, (size, top, _) = random.Random(5), said_of(RECORDS[:7])
-        for _ in range((150 if CHECKED else 15) // FEWER):
-            letter = bytearray(letter_of(RECORDS[:7], chance.randrange(7)))
+        for turn in range((200 if CHECKED else 20) // FEWER):
+            indexes = sorted(chance.sample(range(7), chance.randrange(1, 8)))
+            letter = bytearray(passage_of(RECORDS[:7], indexes) if turn % 3 == 0 else letter_of(RECORDS[:7], indexes[0]))
             for _ in range(chance.randrange(3)):
                 letter[chance.randrange(min(len(letter), 40))] = chance.randrange(256)
             if chance.random() < 0.2:
                 letter = letter[:chance.randrange(len(letter))]
-            ran = keeper("check", size, top.hex(), "--show", "--page", self.folder / "page.html", given=bytes(letter))
+            page = () if is_passage(letter) else ("--page", self.folder / "page.html")
+            ran = keeper("check", size, top.hex(), "--show", *page, given=bytes(letter))
             wanted = number_of(size, top, bytes(letter))
             self.assertEqual(ran.returncode, 1 if wanted else 0, ran.stderr)
             self.assertIn(f"number {wanted}:".encode() if wanted else b"", ran.stderr)

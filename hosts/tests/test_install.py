@@ -87,10 +87,12 @@ class Manual(HostTest):
     def test_completion(self):
         script = 'source "$0"; '
         for words in ("keeper ver", "keeper check 1 2 --p", "keeper root log --r", "keeper root --records --st", "keeper dig", "keeper digest --ch",
-                      "keeper no", "keeper node --l", "keeper node --in", "keeper node --inner 0"):
+                      "keeper no", "keeper node --l", "keeper node --in", "keeper node --inner 0", "keeper pas", "keeper passage log --r",
+                      "keeper check 1 2 --to", "keeper find log --r"):
             script += f'COMP_WORDS=({words}); COMP_CWORD={len(words.split()) - 1}; _keeper; echo "${{COMPREPLY[@]}}"; '
         ran = subprocess.run(["bash", "-c", script, TOP / "completion" / "keeper.bash"], capture_output=True, check=True)
-        self.assertEqual(ran.stdout, b"verify\n--page\n--records\n--stream\ndigest\n--check\nnode\n--leaf\n--inner\n\n")
+        self.assertEqual(ran.stdout, b"verify\n--page\n--records\n--stream\ndigest\n--check\nnode\n--leaf\n--inner\n\n"
+                                     b"passage\n--records\n--to\n--records\n")
 
 
 if __name__ == "__main__":

@@ -3,7 +3,7 @@ import json
 import re
 import unittest
 
-from harness import NODES, RECORDS, TOP, HostTest, digest, flipped, keeper, letter_of, nodes_of, said_of, stream_of
+from harness import NODES, RECORDS, TOP, HostTest, digest, flipped, keeper, letter_of, nodes_of, passage_of, said_of, stream_of
 from rules.stored import stored_leaf  # behind harness, which says where the second program lies
 
 
@@ -49,6 +49,12 @@ class Objects(HostTest):
         answer = self.object(1, "check", 8, self.top, given=flipped(letter, 25))
         self.assertEqual((answer["accepted"], answer["number"], answer["letter"]["number"]), (False, 9, 9))
         self.assertEqual(self.object(0, "find", self.log, self.file("own", RECORDS[3]), self.file("letter", letter))["found"], "same")
+        own, other = self.file("own", RECORDS[3]), self.file("other", RECORDS[4])
+        answer = self.object(0, "passage", self.log, 3, own, 4, other)
+        self.assertEqual((bytes.fromhex(answer["letter"]), answer["record_count"]), (passage_of(RECORDS[:5], (3, 4)), 2))
+        answer = self.object(0, "check", 8, self.top, given=passage_of(RECORDS[:5], (3, 4)))["letter"]
+        self.assertEqual([(entry["index"], bytes.fromhex(entry["record"])) for entry in answer["entries"]], [(3, RECORDS[3]), (4, RECORDS[4])])
+        self.assertEqual(self.object(0, "find", self.log, own, other, self.file("letter", passage_of(RECORDS[:5], (3, 4))))["found"], "same")
         self.assertEqual(self.object(0, "verify", self.log)["inner_nodes"], 3)
         self.assertEqual(self.object(0, "repair", self.log, self.folder / "copy")["records"], 5)
         answer = self.object(0, "append", self.log, given=RECORDS[5])

@@ -11,6 +11,8 @@ class WrongUse(HostTest):
                       ("append",), ("append", self.log, "--folder"), ("append", self.log, "--other"), ("append", self.log, "--acknowledge"),
                       ("append", self.log, "--stream", "--folder", "x"), ("append", self.log, "file", "--stream"), ("root", self.log, "--bytes", "--json"),
                       ("check", 1), ("check", 1, "00", "--record"), ("check", 1, "00", "letter", "--page", "x"), ("find", self.log), ("letter", self.log),
+                      ("check", 1, "00", "--to"), ("find", self.log, "letter"), ("find", self.log, "record", "letter", "--records"), ("passage", self.log),
+                      ("passage", self.log, "0"), ("passage", self.log, "--records"), ("passage", self.log, "0", "file", "1"), ("root", self.log, "--to", "x"),
                       ("repair", self.log), ("verify", self.log, "--size", "1"), ("verify", self.log, "--stream"), ("root", "--records"),
                       ("root", self.log, "--stream"), ("root", self.log, "file", "--records"), ("--stream",), ("append", self.log, "--quiet=1"),
                       ("info", self.log, "--quiet"), ("letter", self.log, "0", "--quiet"), ("repair", self.log, "copy", "--quiet"),
@@ -36,6 +38,7 @@ class WrongUse(HostTest):
 
     def test_files(self):
         for words in (("root", self.log), ("letter", self.log, 0), ("append", self.folder / "no" / "log"), ("root", self.folder), ("info", self.log),
+                      ("passage", self.log, 0, self.log), ("passage", self.log, "--records", 0), ("find", self.log, self.log, self.log),
                       ("root", self.log, "--records"), ("root", self.log, "--records", self.log), ("root", "--records", self.log),
                       ("verify", self.log), ("repair", self.log, self.folder / "copy"), ("digest", self.log), ("digest", "--check", self.log),
                       ("node", self.log), ("node", "--leaf", self.log), ("node", self.log, "--record", self.folder / "record")):

@@ -10,7 +10,7 @@ from rules.shape import MOST_LEAVES, nodes_of
 FULL, MOST = nodes_of(MOST_LEAVES), 2**32 - 1
 # A log of so many leaves, and a batch of so many records, which is refused in every way.
 BEFORE, COUNT = 2, 5
-# As many lengths as a part can hold, nearly; and a log of leaves that are all the same, whose nodes nearly fill one.
+# Many lengths, in 128,000 bytes; and a log of leaves that are all the same, whose nodes are as long.
 LENGTHS, SAME = 32000, 2000
 
 
@@ -84,7 +84,7 @@ def fixed_sums(world):
 
 
 def fixed_many(world):
-    """More lengths than there is room for nodes, with no byte and with one; a batch whose nodes nearly fill a part."""
+    """More lengths than there is room for nodes, with no byte and with one; a batch of many nodes."""
     for joined, room in itertools.product((b"", b"\5"), (0, NODE * 100, NODE * 100 - 1)):
         yield many_case(0, joined, [0] * LENGTHS, b"\x3c" * room, world.mode)
     for short in (0, 1):

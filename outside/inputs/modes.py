@@ -3,10 +3,14 @@ import itertools
 import random
 
 from calls import (BEFORE, append_case, check_case, cut_case, digest_case, find_case, flipped, leaf_case, many_case, mode_bytes, mode_keyed_case,
-                   mode_plain_case, read_case, root_case, write_case)
+                   mode_plain_case, passage_check_case, passage_entries_case, passage_entry_case, passage_find_case, passage_write_case, read_case,
+                   root_case, write_case)
 from expected.given import KEYS, LEAGUES
+from once import Once
 from portable.orders import order_cases
+from rules.blake3 import PLAIN
 from rules.log import NODE
+from rules.passages import passage_of
 from rules.shape import nodes_of
 from rules.stored import stored_inner, stored_leaf
 from vector_cases import cases_of, read_vector
@@ -15,6 +19,8 @@ MODE = len(BEFORE)
 NUMBERS = (1, 2, 2**8, 2**24, 2**31, 2**32 - 1)
 # A log and one of its records, for calls in any mode.
 LEAVES, INDEX = 7, 2
+# The records of a passage of that log.
+INDEXES = (1, 2, 5)
 
 
 def fixed_keys():
@@ -48,8 +54,20 @@ def true_cases(world, mode):
     yield check_case(size, world.root(LEAVES), letter, mode)
     yield find_case(size, nodes, record, letter, mode=mode)
     yield leaf_case(record, 37 + len(record), mode)
+    yield from passage_cases(world, mode)
     for data in (stored_leaf(record, world.digest), flipped(stored_leaf(record, world.digest), 32, 128), stored_inner(world.root(LEAVES))):
         yield read_case(data, NODE, mode)
+
+
+def passage_cases(world, mode):
+    """Each call of passages, with the world's own inputs, in a mode that may be another."""
+    size, nodes, top, own = nodes_of(LEAVES), world.nodes(LEAVES), world.root(LEAVES), [world.records[index] for index in INDEXES]
+    letter, joined, lengths = passage_of(size, INDEXES, own, nodes, world.digest), b"".join(own), list(map(len, own))
+    yield passage_write_case(size, INDEXES, joined, lengths, nodes, len(letter), mode)
+    yield passage_check_case(size, top, letter, mode)
+    yield passage_entry_case(size, top, letter, 1, mode)
+    yield passage_entries_case(size, top, letter, (len(own),) * 3, mode)
+    yield passage_find_case(size, nodes, joined, lengths, letter, mode=mode)
 
 
 def fixed_any_modes(world):
@@ -61,5 +79,5 @@ def fixed_any_modes(world):
 
 
 def fixed_orders():
-    """Every two refusals at once under a key. Plain they stand in vectors/."""
-    return cases_of(read_vector("orders", case) for case in order_cases(LEAGUES[0]))
+    """Every two refusals at once under a key. Plain they stand in vectors/, but for some of passages, which are tried too."""
+    return cases_of(read_vector("orders", case) for mode in (PLAIN, LEAGUES[0]) for case in order_cases(Once(*mode)))

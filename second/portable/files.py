@@ -8,16 +8,17 @@ from portable.form import file_text
 from portable.keyed import keyed_cases
 from portable.letters import checking_cases, writing_cases
 from portable.logs import log_cases
-from portable.orders import order_cases
+from portable.orders import order_vectors
 from portable.panel import keyed_panel_cases, panel_cases
 from portable.parts import parts_cases
+from portable.passages import checked_cases, found_cases, written_cases
 from portable.shape import shape_cases
 from portable.stored import stored_cases
 
 VECTORS = Path(__file__).resolve().parents[2] / "vectors"
 # A file: what it is about, the section of docs/RULES.md that decides, and its cases.
 FILES = {
-    "orders.json": ("every two refusals of a call at once", "3", order_cases),
+    "orders.json": ("every two refusals of a call at once", "3", order_vectors),
     "digests.json": ("digests, plain and keyed, beside BLAKE3's published ones in blake3-published.txt", "5", digest_cases),
     "keyed.json": ("keys, modes, and what is worked out under a key", "5.5", keyed_cases),
     "parts.json": ("digests in parts: inputs cut in many ways; states begun, added to and ended", "5.7", parts_cases),
@@ -30,6 +31,9 @@ FILES = {
     "finder.json": ("letters beside the log that they are of", "10", finder_cases),
     "panel.json": ("what the panel's program reads, and the number that it writes", "11", panel_cases),
     "panel-keyed.json": ("what the panel's program for keyed logs reads, and the number that it writes", "11", keyed_panel_cases),
+    "passages-written.json": ("passages written", "12", written_cases),
+    "passages-checked.json": ("passages checked and handed out: true, damaged, forged", "12", checked_cases),
+    "passages-found.json": ("passages beside the log that they are of", "12.9", found_cases),
 }
 
 

@@ -1,4 +1,5 @@
 """How the portable vectors are written: bytes, numbers, modes, a case, a file."""
+import functools
 import json
 
 from rules.blake3 import PLAIN
@@ -27,6 +28,7 @@ def run_at(data, at):
     return end - at
 
 
+@functools.lru_cache(maxsize=None)
 def pieces_of(data):
     """The data as long runs of counting bytes, and what is between them in hexadecimal."""
     pieces, spelled, at = [], 0, 0

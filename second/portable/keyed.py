@@ -10,6 +10,8 @@ from portable.form import case, counted, logged
 from portable.letters import check_case, damages, flipped, write_case
 from portable.logs import append_case, root_case, small_log, whole_case
 from portable.orders import singles
+from portable.passages import INDEXES, damages as passage_damages, entries_case, passage_in, requests
+from portable.passages import check_case as check_passage_case, find_case as find_passage_case, write_case as write_passage_case
 from portable.stored import LENGTHS, RECORD, edits, leaf_case, read_case
 from rules.blake3 import PLAIN, Mode, keyed
 from rules.letters import WHOLE_LETTER, letter_of
@@ -121,6 +123,27 @@ def league_cases():
         yield write_case(f"{name}, written of its own log", size, 0, record, nodes, len(letter), mode)
 
 
+def passage_cases():
+    """Passages of logs of seven written, checked, handed out and compared; one damaged in each way; and one of each mode in each other."""
+    for name, leaves, indexes in requests():
+        if leaves == LEAVES:
+            size, nodes, top, joined, lengths, letter = passage_in(leaves, indexes, ONE)
+            yield write_passage_case(f"passage, {name}, written", size, indexes, joined, lengths, nodes, len(letter), ONE)
+            yield check_passage_case(f"passage, {name}, checked", size, top, letter, ONE)
+            yield entries_case(f"passage, {name}, handed out", size, top, letter, mode=ONE)
+            yield find_passage_case(f"passage, {name}, compared", size, nodes, joined, lengths, letter, mode=ONE)
+    size, _, top, _, _, letter = passage_in(LEAVES, INDEXES, ONE)
+    for damage, shown in passage_damages(letter):
+        yield check_passage_case(f"a passage, {damage}", size, top, shown, ONE)
+    for (whose, of), (where, mode) in itertools.permutations(WHOSE.items(), 2):
+        size, nodes, top, joined, lengths, letter = passage_in(3, (0, 2), of)
+        name = f"a passage of {whose} in the mode of {where}"
+        yield check_passage_case(f"{name}, checked", size, top, letter, mode)
+        yield find_passage_case(f"{name}, compared with its own log", size, nodes, joined, lengths, letter, mode=mode)
+        yield write_passage_case(f"{name}, written of its own log", size, (0, 2), joined, lengths, nodes, len(letter), mode)
+
+
 def keyed_cases():
-    """Keys, modes, logs, stored nodes, letters, leagues; then each refusal alone, under a key."""
-    return [*key_cases(), *mode_cases(), *log_cases(), *node_cases(), *letter_cases(), *league_cases(), *(one for _, one in singles(ONE))]
+    """Keys, modes, logs, stored nodes, letters, leagues, passages; then each refusal alone, under a key."""
+    return [*key_cases(), *mode_cases(), *log_cases(), *node_cases(), *letter_cases(), *league_cases(), *passage_cases(),
+            *(one for _, one in singles(ONE))]

@@ -2,12 +2,14 @@
 import itertools
 
 from expected.given import LEAGUES
+from once import Once
 from portable.batches import many_case
 from portable.form import counted, logged
 from portable.finder import find_case
 from portable.letters import check_case, flipped, write_case
 from portable.logs import append_case, root_case, small_log
 from portable.parts import add_case, end_case, state_of
+from portable.passage_orders import PASSAGE_ORDERS, passage_calls, shared
 from portable.stored import RECORD, read_case
 from rules.blake3 import PLAIN
 from rules.finder import PAIR
@@ -31,6 +33,7 @@ ORDERS = {
     "letter_write": ("1", "5", "3", "4", "13", "6"),
     "letter_check": ("1", "12", *FROM_7),
     "find": ("1", "10", "4", *FROM_7, "3 (record)", "13", "14", "6 (first buffer)", "6 (second buffer)"),
+    **PASSAGE_ORDERS,
 }
 
 
@@ -118,14 +121,25 @@ def calls(mode):
     yield "find", with_letter(find_case, parts), {"size": size, "nodes": nodes, "record": record, "rooms": (PAIR, PAIR), **parts}, {
         "1": no_size, "10": {"size": 0}, "4": short, **from_7, "3 (record)": {"record": longer}, "13": {"record": b"other"},
         "14": {"nodes": flipped(nodes, NODE)}, "6 (first buffer)": {"rooms": (PAIR - 1, PAIR)}, "6 (second buffer)": {"rooms": (PAIR, PAIR - 1)}}
+    yield from passage_calls(mode)
 
 
-def pairs(mode):
-    """A case for every two entries of an order whose changes are of different parts: the entry that comes first, and the case."""
+def twos(call, changes, left_out):
+    """Every two entries of an order whose changes are of different parts, but for some that are left out."""
+    for one, other in itertools.combinations([entry for entry in ORDERS[call] if entry in changes], 2):
+        if not set(changes[one]) & set(changes[other]) and not left_out(call, one, other):
+            yield one, other
+
+
+def pairs(mode, left_out=lambda *two: False):
+    """A case for every two entries of an order: the entry that comes first, and the case. What is changed behind the end of a passage that is cut
+    is not there."""
     for call, make, true, changes in calls(mode):
-        for one, other in itertools.combinations([entry for entry in ORDERS[call] if entry in changes], 2):
-            if not set(changes[one]) & set(changes[other]):
-                yield one, make(f"{call}, {one} and {other}", mode=mode, **{**true, **changes[one], **changes[other]})
+        alone = {entry: make("", mode=mode, **{**true, **change})["given"] for entry, change in changes.items()}
+        for one, other in twos(call, changes, left_out):
+            case = make(f"{call}, {one} and {other}", mode=mode, **{**true, **changes[one], **changes[other]})
+            if call not in PASSAGE_ORDERS or case["given"] not in (alone[one], alone[other]):
+                yield one, case
 
 
 def singles(mode):
@@ -140,9 +154,14 @@ def order_cases(mode=PLAIN):
     return [case for _, case in pairs(mode)]
 
 
+def order_vectors():
+    """Those that are stored as vectors: where calls of passages share tests, those of one of them."""
+    return [case for _, case in pairs(Once(*PLAIN), shared)]
+
+
 def check_orders():
     """In each mode each entry applies alone, and of two the one that comes first is answered."""
-    tried = [one for mode in (PLAIN, *LEAGUES[:1]) for one in (*singles(mode), *pairs(mode))]
+    tried = [one for mode in (Once(*PLAIN), Once(*LEAGUES[0])) for one in (*singles(mode), *pairs(mode))]
     wrong = [case for entry, case in tried if case["answer"]["number"] != int(entry.split()[0])]
     for case in wrong:
         print(f"orders: {case['name']}: answered {case['answer']['number']}")

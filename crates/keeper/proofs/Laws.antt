@@ -1,22 +1,18 @@
--- How the calls for append, digest and root, and those of writers, follow from the calls below them.
+-- How the calls for append, digest and root follow from the calls below them.
 use mathlib.Core.Logic.{_≢_}
-use mathlib.Core.Path.{_≡_, refl, sym, ap, _∙_}
+use mathlib.Core.Path.{_≡_, sym, ap, _∙_}
 use mathlib.Core.List.{List}
 use Prim.Native.Nat.{ℕ, _≤_, _<_}
-use native.Mathlib.Omega.{arith}
 use lib.ListN.{length}
-use borrow.Author.Needs.{needs}
 use Rattle.digest.specs.Digest.{digestIn, digest-length}
-use Rattle.order.proofs.Laws.{refuses, passes}
-use Rattle.wire.specs.Slices.{splice, written}
-use Rattle.wire.specs.declared.Written.{Written}
-use Rattle.wire.specs.Writers.{WriteOutcome, wrote}
-use Rattle.wire.proofs.Splices.{written-fits}
+use Rattle.wire.specs.Slices.{written}
 use Rattle.log.specs.declared.Appended.{Appended}
 use Rattle.log.specs.declared.Rooted.{Rooted}
 use Rattle.log.specs.Outcome.{AppendOutcome, appended, rooted, RootOutcome, rootOutcome}
-use Rattle.keeper.specs.Calls.{appendLeft, appendOver, Filled, filled, handed, digestCall, rootCall, writeLeft, writeCall}
-use Rattle.keeper.proofs.Kept.{kept-done, kept-left}
+use Rattle.kept.specs.Kept.{Filled, filled, handed}
+use Rattle.keeper.specs.Calls.{appendLeft, appendOver, digestCall, rootCall}
+use Rattle.kept.proofs.Kept.{kept-done, kept-left}
+use Rattle.kept.proofs.Handed.{handed-short, handed-done}
 
 -- ---- Append
 
@@ -36,19 +32,6 @@ module _ (oldSize oldHashes : ℕ) (r : Appended) (x : List ℕ) {outcome : Appe
       ap (λ (n : ℕ). appendLeft n (r .size) (r .hashes) x) (sym z) ∙ e ∙ sym (kept-done _ _ _ (sym (ap number e) ∙ z))
 
 -- ---- A digest written out
-
--- a digest over the first 32 bytes
-pub fits : (d out y : List ℕ) → length d ≡ 32 → 32 ≤ length out → y ≡ written 0 d out → y ≡ splice 0 d out
-fits d out y l h w = w ∙ written-fits 0 d out (omega arith)
-
--- the output is short; the digest is written
-pub handed-short : (d out : List ℕ) → length out < 32 → filled 6 out ≡ handed d out
-unfolding handed
-handed-short d out h = refuses 6 _ _ _ refl (search needs)
-
-pub handed-done : (d out y : List ℕ) → length d ≡ 32 → 32 ≤ length out → y ≡ written 0 d out → filled 0 y ≡ handed d out
-unfolding handed
-handed-done d out y l h w = passes _ _ _ (ap (filled 0) (fits d out y l h w)) (search needs)
 
 module _ (mode bs out : List ℕ) where
   pub digest-short : length out < 32 → filled 6 out ≡ digestCall mode bs out
@@ -78,19 +61,3 @@ module _ (mode : List ℕ) (size : ℕ) (bs out : List ℕ) (r : Rooted) (e : ro
   pub root-done : (y : List ℕ) → r .number ≡ 0 → 32 ≤ length out → length (r .root .bytes) ≡ 32
       → y ≡ written 0 (r .root .bytes) out → filled 0 y ≡ rootCall mode size bs out
   root-done y z h l w = given z (handed-done (r .root .bytes) out y l h w)
-
--- ---- A writer
-
-module _ (outcome : WriteOutcome) (old : ℕ) (r : Written) (x : List ℕ) (e : wrote r x ≡ outcome) where
-  abbrev writeNumber : WriteOutcome → ℕ
-  writeNumber o = o .number
-
-  -- a refusal leaves what was there; a done writer puts its length behind the pointer
-  pub write-refused : r .number ≢ 0 → writeLeft (r .number) old x ≡ writeCall outcome old
-  unfolding writeCall
-  write-refused k =
-      ap (λ (o : WriteOutcome). writeLeft (o .number) old (o .bytes)) e ∙ sym (kept-left _ _ _ (λ z. k (ap writeNumber e ∙ z)))
-
-  pub write-done : r .number ≡ 0 → writeLeft 0 (r .length) x ≡ writeCall outcome old
-  unfolding writeCall
-  write-done z = ap (λ (n : ℕ). writeLeft n (r .length) x) (sym z) ∙ e ∙ sym (kept-done _ _ _ (sym (ap writeNumber e) ∙ z))

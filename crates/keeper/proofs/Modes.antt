@@ -5,9 +5,9 @@ use mathlib.Core.List.{List}
 use Prim.Native.Nat.{ℕ}
 use Rattle.digest.specs.declared.Moded.{Moded}
 use Rattle.digest.specs.Modes.{keyAnswer}
-use Rattle.keeper.specs.Calls.{filled}
+use Rattle.kept.specs.Kept.{filled}
 use Rattle.keeper.specs.Modes.{keyedCall}
-use Rattle.keeper.proofs.Kept.{kept-done, kept-left}
+use Rattle.kept.proofs.Kept.{kept-done, kept-left}
 
 module _ (key old : List ℕ) (r : Moded) (e : r ≡ keyAnswer key) where
   abbrev number : Moded → ℕ

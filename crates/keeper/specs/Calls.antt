@@ -1,20 +1,11 @@
 -- What the calls for C answer, and what they leave behind each pointer: the outcome of the call below, with what was there kept on a refusal.
-use mathlib.Core.Bool.{true, false}
-use mathlib.Core.List.{List, [], _∷_}
+use mathlib.Core.List.{List}
 use Prim.Native.Nat.{ℕ}
-use lib.Dec.{eqb}
-use lib.ListN.{length}
 use Rattle.digest.specs.Digest.{digestIn}
-use Rattle.order.specs.Order.{Refusal, _if_, _under_, verdict}
 use Rattle.shape.specs.Answers.{Answer}
-use Rattle.wire.specs.Slices.{splice}
-use Rattle.wire.specs.Writers.{WriteOutcome}
+use Rattle.kept.specs.Kept.{orKept, Filled, filled, handed}
 use Rattle.log.specs.Outcome.{AppendOutcome, appendOutcome, rootOutcome}
 use Rattle.batch.specs.Batch.{batchOutcome}
-
--- what is left behind the pointers: `done` where the call below has the number 0, and `kept` where it refuses
-unfoldable pub orKept : {X : Type 0} → ℕ → X → X → X
-orKept number done kept = elim (eqb number 0) [ true ↦ done | false ↦ kept ]
 
 -- ---- Sizes, positions, counts
 
@@ -47,22 +38,6 @@ appendManyCall mode size whole lengths bs oldSize oldHashes = appendOver oldSize
 
 -- ---- A digest written out
 
--- the number, and the output buffer at return
-pub record Filled : Type 0 where
-  pub number : ℕ
-  pub bytes : List ℕ
-
-abbrev pub filled : ℕ → List ℕ → Filled
-filled number bs = record { number = number; bytes = bs }
-
--- 6: a digest wants 32 bytes
-abbrev pub outOrder : List ℕ → List Refusal
-outOrder out = 6 if length out under 32 ∷ []
-
--- a digest, in the first 32 bytes of the output
-unfoldable pub handed : List ℕ → List ℕ → Filled
-handed digest out = verdict (λ number. filled number out) (outOrder out) (filled 0 (splice 0 digest out))
-
 -- the digest of any bytes
 unfoldable pub digestCall : List ℕ → List ℕ → List ℕ → Filled
 digestCall mode bs out = handed (digestIn mode bs) out
@@ -72,13 +47,3 @@ unfoldable pub rootCall : List ℕ → ℕ → List ℕ → List ℕ → Filled
 rootCall mode size bs out =
     let o = rootOutcome (digestIn mode) size bs in
     orKept (o .number) (handed (o .root) out) (filled (o .number) out)
-
--- ---- A writer
-
--- the number, the length behind its pointer, and the output buffer, at return
-abbrev pub writeLeft : ℕ → ℕ → List ℕ → WriteOutcome
-writeLeft number length bs = record { number = number; length = length; bytes = bs }
-
--- the length variable held `old`
-unfoldable pub writeCall : WriteOutcome → ℕ → WriteOutcome
-writeCall o old = orKept (o .number) o (writeLeft (o .number) old (o .bytes))

@@ -1,7 +1,3 @@
 -- What the calls for C answer and leave behind their pointers.
 pub mod Calls
 pub mod Modes
-pub mod Nodes
-pub mod Letters
-pub mod Finder
-pub mod Parts

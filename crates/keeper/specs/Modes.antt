@@ -2,7 +2,7 @@
 use mathlib.Core.List.{List}
 use Prim.Native.Nat.{ℕ}
 use Rattle.digest.specs.Modes.{plainMode, keyAnswer}
-use Rattle.keeper.specs.Calls.{orKept, Filled, filled}
+use Rattle.kept.specs.Kept.{orKept, Filled, filled}
 
 -- the plain mode
 abbrev pub plainCall : Filled

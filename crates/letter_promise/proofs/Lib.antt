@@ -1,5 +1,5 @@
 -- The promise, proved, over a log's nodes and by the plain rule; and that number 15 is struck.
-mod Kept
+pub mod Kept
 mod Ours
 mod Checked
 mod Found

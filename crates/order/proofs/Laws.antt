@@ -29,6 +29,15 @@ abbrev pub numbered : List Refusal → Bool
 numbered [] = true
 numbered (m if t ∷ later) = ltb 0 m && numbered later
 
+-- a computed test before two others, one of which follows from the other
+later : (b p q : Bool) → (T p → T q) → T (b && p) → T (b && q)
+later true p q f h = f h
+
+-- an order in two parts
+pub numbered-append : (xs ys : List Refusal) → T (numbered xs) → T (numbered ys) → T (numbered (xs ++ ys))
+numbered-append [] ys p q = q
+numbered-append (m if t ∷ xs) ys p q = later (ltb 0 m) (numbered xs) (numbered (xs ++ ys)) (λ h. numbered-append xs ys h q) p
+
 -- ---- one refusal, and then the whole order
 
 module _ (t : Test) (Later : Type 0) where
@@ -183,6 +192,16 @@ module _ {X : Type 0} (refused : ℕ → X) (xs ys : List Refusal) (done : X) {r
   -- the first part passes, and the second decides
   pub late : Passes xs → r ≡ verdict refused ys done → r ≡ verdict refused (xs ++ ys) done
   late h e = e ∙ sym (verdict-append refused xs ys done ∙ pass refused (verdict refused ys done) xs h)
+
+-- the same of the number alone
+module _ {number : ℕ} (xs ys : List Refusal) where
+  pub first-early : number ≢ 0 → number ≡ firstNumber xs → number ≡ firstNumber (xs ++ ys)
+  unfolding firstNumber
+  first-early h e = early (λ n. n) xs ys 0 e (λ z. h (e ∙ z))
+
+  pub first-late : Passes xs → number ≡ firstNumber ys → number ≡ firstNumber (xs ++ ys)
+  unfolding firstNumber
+  first-late p e = late (λ n. n) xs ys 0 p e
 
 -- ---- two outcomes
 

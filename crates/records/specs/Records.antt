@@ -1,7 +1,8 @@
 -- Records joined together, with a list of their lengths.
 use mathlib.Core.List.{List, [], _∷_}
 use Prim.Native.Nat.{ℕ, _+_}
-use lib.ListN.{take, drop}
+use lib.ListN.{length, take, drop}
+use Rattle.order.specs.Order.{Refusal, _if_, _is-not_}
 
 -- the sum of the lengths
 unfoldable pub total : List ℕ → ℕ
@@ -12,3 +13,7 @@ total (k ∷ ks) = k + total ks
 unfoldable pub cut : List ℕ → List ℕ → List (List ℕ)
 cut [] bs = []
 cut (k ∷ ks) bs = take k bs ∷ cut ks (drop k bs)
+
+-- not so many lengths; lengths that don't add up to so many bytes
+abbrev pub sumsOrder : ℕ → ℕ → List ℕ → List Refusal
+sumsOrder count bytes lengths = 16 if length lengths is-not count ∷ 16 if total lengths is-not bytes ∷ []

@@ -26,6 +26,15 @@ pub fn read_byte(s: &[u8], at: usize) -> u8
     0
 }
 
+// Reads the number in the two bytes from a place on.
+pub fn read2(s: &[u8], at: usize) -> u32
+    ensures { λ r. ⌜ r ≡ number (part at 2 (now (s .entry))) ⌝ }
+{
+    let mut b = [0u8; 2];
+    read_run(s, at, &mut b);
+    value_of(&b)
+}
+
 // Reads the number in the four bytes from a place on.
 pub fn read4(s: &[u8], at: usize) -> u32
     ensures { λ r. ⌜ r ≡ number (part at 4 (now (s .entry))) ⌝ }
@@ -113,6 +122,15 @@ pub fn write_byte(d: &mut [u8], at: usize, b: u8)
     if at < d.len() {
         d[at] = b;
     }
+}
+
+// Writes a number over the two bytes from a place on.
+pub fn write2(d: &mut [u8], at: usize, n: u32)
+    ensures { λ _. ⌜ now (d .exit) ≡ written at (be 2 n) (now (d .entry)) ⌝ }
+{
+    let mut b = [0u8; 2];
+    spell(&mut b, n as u64);
+    write_run(d, at, &b);
 }
 
 // Writes a number over the four bytes from a place on.

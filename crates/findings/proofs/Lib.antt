@@ -1,0 +1,4 @@
+-- Laws of the answer, and of the first two records that differ.
+pub mod Settled
+pub mod Places
+pub mod Only

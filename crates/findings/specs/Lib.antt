@@ -1,0 +1,2 @@
+-- What a finder of many records answers.
+pub mod Outcome

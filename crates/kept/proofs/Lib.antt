@@ -1,0 +1,4 @@
+-- The laws of what is kept.
+pub mod Kept
+pub mod Handed
+pub mod Writers

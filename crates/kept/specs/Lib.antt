@@ -1,0 +1,2 @@
+-- What a call for C leaves behind its pointers.
+pub mod Kept

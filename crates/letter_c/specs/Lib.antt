@@ -1,0 +1,3 @@
+-- What the calls of letters for C answer and leave behind their pointers.
+pub mod Letters
+pub mod Finder

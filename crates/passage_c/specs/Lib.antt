@@ -1,0 +1,2 @@
+-- What the calls of passages for C answer.
+pub mod Calls

@@ -1,0 +1,2 @@
+-- What the code's own step asks and leaves.
+pub mod Steps

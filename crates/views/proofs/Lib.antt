@@ -1,0 +1,23 @@
+-- The laws of views, of passages and of half-time letters.
+pub mod Sides
+pub mod Planted
+pub mod Nodes
+pub mod Own
+pub mod Letters
+pub mod Compare
+pub mod Agreed
+pub mod Passages
+pub mod Starts
+pub mod Bounds
+pub mod Largest
+pub mod Heights
+pub mod Walks
+pub mod Inside
+pub mod Sound
+pub mod Pairs
+pub mod Passing
+pub mod One
+pub mod OneNodes
+pub mod Halves
+pub mod Local
+pub mod Examples
