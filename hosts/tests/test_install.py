@@ -5,7 +5,7 @@ import shutil
 import subprocess
 import unittest
 
-from harness import CHECKED, RECORDS, TOP, HostTest, letter_of, said_of
+from harness import CHECKED, RECORDS, TOP, HostTest, letter_of, passage_of, said_of
 
 
 @unittest.skipIf(CHECKED, "tried once, without sanitizers")
@@ -33,13 +33,18 @@ class Installed(HostTest):
         given = size.to_bytes(8, "big") + said_of(RECORDS[:5], key)[1] + letter_of(RECORDS[:5], 2, key)
         ran = subprocess.run([self.folder / "panel", "--key", self.file("key", key)], input=given, capture_output=True, check=False, env=path)
         self.assertEqual((ran.returncode, ran.stdout, ran.stderr), (0, b"0\n", b""))
+        given = size.to_bytes(8, "big") + top + passage_of(RECORDS[:5], (0, 2, 3))
+        for words, number in ((("--passage",), b"0\n"), ((), b"5\n")):
+            ran = subprocess.run([self.folder / "panel", *words], input=given, capture_output=True, check=False, env=path)
+            self.assertEqual((ran.returncode, ran.stdout, ran.stderr), (0, number, b""))
         ran = subprocess.run([self.at / "bin" / "panel", "--version"], capture_output=True, check=True, env=path)
         self.assertIn(b"panel (Cinchcleat)", ran.stdout)
 
     def test_files(self):
         names = {str(path.relative_to(self.at)) for path in self.at.rglob("*") if path.is_file()}
         self.assertLessEqual({"bin/keeper", "bin/panel", "lib/libkeeper.a", "include/keeper.h", "lib/pkgconfig/keeper.pc", "share/man/man1/keeper.1",
-                              "share/man/man1/panel.1", "share/man/man3/keeper.3", "share/bash-completion/completions/keeper"}, names)
+                              "share/man/man1/panel.1", "share/man/man3/keeper.3", "share/bash-completion/completions/keeper",
+                              *(f"lib/cinchcleat/{name}" for name in ("panel", "keyed_panel", "passage_panel"))}, names)
         self.assertNotIn(str(TOP), (self.at / "bin" / "keeper").read_bytes()[:2000].decode("latin-1"))
         self.assertIn(f"prefix={self.prefix}\n", (self.at / "lib/pkgconfig/keeper.pc").read_text())
 
@@ -71,6 +76,16 @@ class Manual(HostTest):
             self.assertIn(f"keeper {command}", page)
             self.assertIn(command, completion)
 
+    def test_every_option_of_panel(self):
+        """The same of the panel's command."""
+        page, completion = ((TOP / name).read_text().replace("\\-", "-") for name in ("man/panel.1", "completion/keeper.bash"))
+        usage = subprocess.run(["sh", "-c", '. "$0"; panel -h', TOP / "shell" / "panel.sh"], capture_output=True, check=True).stdout.decode()
+        options = {word.strip(",.") for word in usage.split() if word.startswith("--")}
+        self.assertEqual(options, {"--bytes", "--key", "--passage", "--version"})
+        for word in sorted(options - {"--bytes"}):
+            self.assertIn(word, page)
+            self.assertIn(word, completion.split("_panel()")[1])
+
     def test_every_call(self):
         page, header = (TOP / "man" / "keeper.3").read_text(), (TOP / "include" / "keeper.h").read_text()
         calls = set(re.findall(r"^uint32_t (keeper_\w+)\(", header, re.M))
@@ -90,9 +105,11 @@ class Manual(HostTest):
                       "keeper no", "keeper node --l", "keeper node --in", "keeper node --inner 0", "keeper pas", "keeper passage log --r",
                       "keeper check 1 2 --to", "keeper find log --r"):
             script += f'COMP_WORDS=({words}); COMP_CWORD={len(words.split()) - 1}; _keeper; echo "${{COMPREPLY[@]}}"; '
+        for words in ("panel --p", "panel --k"):
+            script += f'COMP_WORDS=({words}); COMP_CWORD=1; _panel; echo "${{COMPREPLY[@]}}"; '
         ran = subprocess.run(["bash", "-c", script, TOP / "completion" / "keeper.bash"], capture_output=True, check=True)
         self.assertEqual(ran.stdout, b"verify\n--page\n--records\n--stream\ndigest\n--check\nnode\n--leaf\n--inner\n\n"
-                                     b"passage\n--records\n--to\n--records\n")
+                                     b"passage\n--records\n--to\n--records\n--passage\n--key\n")
 
 
 if __name__ == "__main__":

@@ -315,6 +315,27 @@ class PanelCommand(KeyTest):
         ran, built, got = self.panel(answer="printf '9\\n'")
         self.assertEqual((ran.returncode, ran.stdout, ran.stderr, built, got), (0, b"9\n", b"", b"panel\n", b"noted and letter"))
 
+    def test_passage(self):
+        """Another program reads the same; and with a key it is refused in words, before the key is read or anything is built."""
+        for shell in (("sh",), ("dash",), ("bash", "--posix"), ("busybox", "sh")):
+            if shutil.which(shell[0]):
+                ran, built, got = self.panel("--passage", answer="printf '19\n'", shell=shell)
+                self.assertEqual((ran.returncode, ran.stdout, ran.stderr), (0, b"19\n", b""), shell)
+                self.assertEqual((built, got), (b"passage_panel\n", b"noted and letter"), shell)
+        for key in (self.key, self.folder / "missing"):
+            for words in (("--passage", "--key", key), ("--key", key, "--passage"), ("--passage", f"--key={key}"), (f"--key={key}", "--passage")):
+                ran, built, got = self.panel(*words)
+                self.assertEqual((ran.returncode, ran.stdout, built, got), (2, b"", None, None), words)
+                self.assertIn(b"keeper check --key FILE does", ran.stderr)
+        for words in (("--passage", "--passage"), ("--passage", "more"), ("more", "--passage"), ("--passage=",), ("--passage", "--key"),
+                      ("--passage", "--key", self.key, "more")):
+            ran, built, _ = self.panel(*words)
+            self.assertEqual((ran.returncode, ran.stdout, built), (2, b"", None), words)
+            self.assertIn(b"panel --passage", ran.stderr)
+        for answer in ("true", "echo no number", "return 1"):
+            ran, _, _ = self.panel("--passage", answer=answer)
+            self.assertEqual((ran.returncode, ran.stdout), (2, b""), answer)
+
     def test_lengths(self):
         """24 in words and as the number, whatever the program would say; and it gets no byte of the key."""
         for length in LENGTHS:

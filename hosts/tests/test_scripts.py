@@ -7,7 +7,7 @@ import time
 import unittest
 from pathlib import Path
 
-from harness import CHECKED, RECORDS, TOP, HostTest, letter_of, said_of
+from harness import CHECKED, RECORDS, TOP, HostTest, letter_of, passage_of, said_of
 from test_digest import LONG, PUBLISHED, counting_bytes
 
 PLAIN = {name: os.environ[name] for name in ("PATH", "HOME", "LANG") if name in os.environ}
@@ -63,6 +63,11 @@ class Scripts(HostTest):
         key, given = self.file("key", bytes(range(32))), noted_and(letter_of(RECORDS[3:4], 0, bytes(range(32))), RECORDS[3:4], bytes(range(32)))
         for words, number in ((("--key", key), b"0\n"), (("--key", self.file("other", bytes(32))), b"9\n"), ((), b"9\n")):
             ran = self.run_script(self.folder / "panel", *words, given=given)
+            self.assertEqual((ran.returncode, ran.stdout, ran.stderr), (0, number, b""))
+        passage, single = passage_of(RECORDS[:5], (0, 3)), letter_of(RECORDS[:5], 3)
+        for words, letter, number in ((("--passage",), passage, b"0\n"), (("--passage",), passage + b"\0", b"7\n"), (("--passage",), single, b"19\n"),
+                                      ((), passage, b"5\n")):
+            ran = self.run_script(self.folder / "panel", *words, given=noted_and(letter, RECORDS[:5]))
             self.assertEqual((ran.returncode, ran.stdout, ran.stderr), (0, number, b""))
         self.holds(RECORDS[3:4], self.folder / "log")
         self.assertEqual(sorted((str(path), path.lstat().st_mtime_ns) for path in self.copy.rglob("*")), before)
@@ -160,6 +165,9 @@ class Scripts(HostTest):
             self.assertIn(word, ran.stdout)
         self.assertRegex(self.run_script(self.copy / "bin" / "panel", "--version").stdout, rb"^panel \(Cinchcleat\) \d")
         self.assertEqual(self.run_script(self.copy / "bin" / "panel", "more").returncode, 2)
+        ran = self.run_script(self.copy / "bin" / "panel", "--passage", "--key", self.file("key", bytes(32)))
+        self.assertEqual((ran.returncode, ran.stdout), (2, b""))
+        self.assertIn(b"keeper check --key FILE does", ran.stderr)
 
     def test_edited_while_it_is_built(self):
         """A source that is edited while a build runs is built again by the next command, and then no more: a stand-in for rt edits it and counts."""

@@ -12,7 +12,7 @@ from rules.passage_finder import find_passage
 from rules.passages import check_passage, passage_entries, passage_entry, passage_of, write_passage
 
 # A row of the program's input: the words that begin its line, the key, indexes, joined records, their lengths, nodes, root and letter; the size; the
-# room for a letter; which record is handed out; the places for indexes, starts and lengths; how much of the finder's two buffers is lent.
+# room for a letter; which record is handed out; how many places there are for indexes; how much of the finder's two buffers is lent.
 Row = namedtuple("Row", "words key indexes joined lengths nodes top letter size room which places buffers")
 # The room for a short letter and for a long one; how many bytes behind it are looked at; how long a buffer and a list are; what stands in them.
 SHORT, LONG, BEHIND, BUFFER, PLACES, BYTE, PLACE = 400, 16632, 8, 80, 257, b"\x3c", 9
@@ -56,7 +56,7 @@ def rows_of_log(leaves, requests, room, digest=DIGEST, key=b""):
         letter = passage_of(size, indexes, records, nodes, digest)
         words = f"{'keyed ' * bool(key)}log {leaves} first {first} step {step} count {count}"
         lengths = [len(record) for record in records]
-        yield Row(words, key, indexes, b"".join(records), lengths, nodes, top, letter, size, room, count // 2, (PLACES,) * 3, (PAIR, PAIR))
+        yield Row(words, key, indexes, b"".join(records), lengths, nodes, top, letter, size, room, count // 2, PLACES, (PAIR, PAIR))
 
 
 # ---- changes
@@ -66,11 +66,11 @@ def rows_of_log(leaves, requests, room, digest=DIGEST, key=b""):
 LEAVES, INDEXES = 7, (2, 4, 6)
 # What the calls are given, by letters. a: the size; b, c: how much of the nodes, and the byte of them that is flipped; d to g: the indexes, and how
 # many; h to k: the lengths, and how many; l, m: how many joined bytes, and the one that is flipped; n: the room for the letter; o: how much of the
-# root; p: how much of the letter; q, r: a place of it, and the number of two bytes that is written there, more than once in some; u to w: the places
-# for indexes, starts and lengths; x, y: how much of the finder's buffers; z: which record is handed out. 99999: no byte.
-GIVEN = "a11 b352 c99999 d2 e4 f6 g3 h2 i4 j6 k3 l12 m99999 n154 o32 p154 u3 v3 w3 x64 y64 z1"
+# root; p: how much of the letter; q, r: a place of it, and the number of two bytes that is written there, more than once in some; s: how many places
+# for indexes; t, u: how much of the finder's buffers; v: which record is handed out. 99999: no byte.
+GIVEN = "a11 b352 c99999 d2 e4 f6 g3 h2 i4 j6 k3 l12 m99999 n154 o32 p154 s3 t64 u64 v1"
 # Changes that are tried alone and two at a time: 1; the writer's 19, 16, 5, 3, 4, 13, 6; the checker's 12, 7, 8, 19, 3, 5, 19, 9; 14, 6; 6 of lists.
-PAIRS = "a2;e2;k2;f7;h16385 l16395;b351;m11;n153;o31;p9;q6 r10;q8 r257;q20 r16385;q46 r7;q30 r2;q152 r0;c64;x63;v2"
+PAIRS = "a2;e2;k2;f7;h16385 l16395;b351;m11;n153;o31;p9;q6 r10;q8 r257;q20 r16385;q46 r7;q30 r2;q152 r0;c64;t63;s2"
 # Changes that are tried alone: none; sizes, requests; an index and a length of one record; lengths of the log's own records; their bytes; nodes; room
 # and root; letters that are cut; numbers, indexes and lengths that they name; their bytes; places, buffers, records.
 ALONE = (
@@ -79,7 +79,7 @@ ALONE = (
     "c0;c32;c96;c128;c160;c192;c224;c256;c288;c320;n155;o33;o0",
     "p0;p10;p21;p23;p35;p39;p51;p57;p58;p153;p155;q8 r0;q8 r2;q8 r4;q8 r256",
     "q16 r7;q30 r7;q46 r4;q30 r3;q30 r5;q34 r16385;q50 r16385;q20 r16384;q34 r16384;q50 r16384",
-    "q22 r0;q38 r0;q56 r0;q88 r0;q120 r0;u2;w2;u4 v5 w6;u0 v0 w0;y63;x80 y80;z0;z2;z3;z18446744073709551615",
+    "q22 r0;q38 r0;q56 r0;q88 r0;q120 r0;s0;s4;u63;t80 u80;v0;v2;v3;v18446744073709551615",
 )
 
 
@@ -114,8 +114,8 @@ def row_of_change(change):
     lengths = [*(given[name] for name in "hij"), 0]
     return Row(
         f"change {change}".rstrip(), b"", [given[name] for name in "def"][:given["g"]], joined[:given["l"]], lengths[:given["k"]],
-        flipped(nodes, given["c"])[:given["b"]], (top + bytes(1))[:given["o"]], letter[:given["p"]], given["a"], given["n"], given["z"],
-        tuple(given[name] for name in "uvw"), tuple(given[name] for name in "xy"),
+        flipped(nodes, given["c"])[:given["b"]], (top + bytes(1))[:given["o"]], letter[:given["p"]], given["a"], given["n"], given["v"], given["s"],
+        (given["t"], given["u"]),
     )
 
 
@@ -138,14 +138,14 @@ def parts_of(row):
 
 
 def passage_run_stdin():
-    """Where the rows end (8); the rows, 24 numbers of 8 bytes each; behind them the parts, each once. Numbers are big-endian."""
-    end, pool = 8 + 192 * len(rows()), b""
+    """Where the rows end (8); the rows, 22 numbers of 8 bytes each; behind them the parts, each once. Numbers are big-endian."""
+    end, pool = 8 + 176 * len(rows()), b""
     for part in sorted({part for row in rows() for part in parts_of(row)}, key=lambda part: (-len(part), part)):
         pool += b"" if part in pool else part
     numbers = [end]
     for row in rows():
         places = [(end + pool.index(part), len(part)) for part in parts_of(row)]
-        numbers += [*(number for place in places for number in place), row.size, row.room, row.which, *row.places, *row.buffers]
+        numbers += [*(number for place in places for number in place), row.size, row.room, row.which, row.places, *row.buffers]
     return b"".join(number.to_bytes(8, "big") for number in numbers) + pool
 
 
@@ -168,7 +168,7 @@ def handed(row, digest):
 
 def listed(row, digest):
     """The words of the call for all: its answer, and of each list the places that are filled and one more."""
-    lists = [[PLACE] * count for count in row.places]
+    lists = [[PLACE] * count for count in (row.places, PLACES, PLACES)]
     answer = passage_entries(row.size, row.top, row.letter, *lists, digest)
     whole = [(places + [PLACE] * PLACES)[:PLACES] for places in lists]
     return " entries" + numbers_line(*answer) + "".join(" " + numbers_line(*places[:answer.count + 1]) for places in whole)

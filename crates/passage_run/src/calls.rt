@@ -1,6 +1,6 @@
 // The calls, and what they answer, printed. A row has: where eight parts start and how long they are, which are the words that begin its line, the
 // key, the indexes, the joined records, their lengths, the nodes, the root, the letter; the size; the room for a letter; which record is handed out;
-// how many places there are for indexes, starts and lengths; how much of the finder's two buffers is lent.
+// how many places there are for indexes; how much of the finder's two buffers is lent.
 use crate::given::at_most;
 use crate::given::front32;
 use crate::given::front64;
@@ -10,7 +10,6 @@ use crate::given::mode_of;
 use crate::given::number;
 use crate::given::part;
 use findings::Named;
-use passage_checker::Checked;
 use runs::given::front;
 use runs::lines::end_line;
 use runs::lines::say;
@@ -18,10 +17,15 @@ use runs::lines::say_digest;
 use runs::lines::say_number;
 use runs::lines::say_numbers;
 
+// One more number of a line.
+fn word(n: u64) {
+    say_number(b" ", n);
+}
+
 // A number of RULES 2, and what is answered with it.
 fn say_two(label: &[u8], refusal: u32, answer: u64) {
     say_number(label, refusal as u64);
-    say_number(b" ", answer);
+    word(answer);
 }
 
 // The digest of what is lent of an output, and of eight bytes behind it.
@@ -59,11 +63,11 @@ fn show_check(mode: &[u8; 36], size: u64, root: &[u8], letter: &[u8]) {
 fn show_entry(mode: &[u8; 36], size: u64, root: &[u8], letter: &[u8], k: u64) {
     let e = passage_checker::entry(mode, size, root, letter, k);
     say_two(b" entry ", e.number, e.index);
-    say_number(b" ", e.start as u64);
-    say_number(b" ", e.length as u64);
+    word(e.start as u64);
+    word(e.length as u64);
     let rec = passage_checker::record_in(mode, size, root, letter, k);
-    say_number(b" ", rec.len() as u64);
-    say_number(b" ", wire::read8(rec, 0));
+    word(rec.len() as u64);
+    word(wire::read8(rec, 0));
 }
 
 // The places of a list that are filled, and one more.
@@ -71,35 +75,21 @@ fn show_list(list: &[u64; 257], count: u64) {
     say_numbers(b" ", front64(list, std::num::wrapping_add_u64(count, 1)));
 }
 
-// All records, into so many places of three lists.
-fn hand_out(
-    mode: &[u8; 36],
-    input: &[u8],
-    row: &[u8],
-    indexes: &mut [u64],
-    starts: &mut [u64],
-    lengths: &mut [u64],
-) -> Checked {
-    let one = at_most(number(row, 19), indexes.len());
-    let two = at_most(number(row, 20), starts.len());
-    let three = at_most(number(row, 21), lengths.len());
-    passage_checker::entries(
-        mode,
-        number(row, 16),
-        part(input, row, 12),
-        part(input, row, 14),
-        &mut indexes[..one],
-        &mut starts[..two],
-        &mut lengths[..three],
-    )
-}
-
-// The number, how many records there are, and the three lists.
-fn show_entries(mode: &[u8; 36], input: &[u8], row: &[u8]) {
+// All records, into three lists, the first of which has so many places: the number, how many records there are, and the lists.
+fn show_entries(mode: &[u8; 36], size: u64, root: &[u8], letter: &[u8], places: u64) {
     let mut indexes = [9u64; 257];
     let mut starts = [9u64; 257];
     let mut lengths = [9u64; 257];
-    let c = hand_out(mode, input, row, &mut indexes, &mut starts, &mut lengths);
+    let room = at_most(places, 257);
+    let c = passage_checker::entries(
+        mode,
+        size,
+        root,
+        letter,
+        &mut indexes[..room],
+        &mut starts,
+        &mut lengths,
+    );
     say_two(b" entries ", c.number, c.count);
     show_list(&indexes, c.count);
     show_list(&starts, c.count);
@@ -111,8 +101,8 @@ fn show_found(f: Named, first: &[u8; 80], second: &[u8; 80]) {
     let finding = f.finding;
     let found = difference::finding_number(finding);
     say_two(b" find ", f.number, found as u64);
-    say_number(b" ", f.index);
-    say_number(b" ", wire::differ(first, second) as u64);
+    word(f.index);
+    word(wire::differ(first, second) as u64);
 }
 
 // The finder, with so much of two buffers.
@@ -120,8 +110,8 @@ fn show_find(mode: &[u8; 36], input: &[u8], row: &[u8]) {
     let lengths = lengths_in(part(input, row, 8));
     let mut first = [60u8; 80];
     let mut second = [60u8; 80];
-    let one = at_most(number(row, 22), 80);
-    let two = at_most(number(row, 23), 80);
+    let one = at_most(number(row, 20), 80);
+    let two = at_most(number(row, 21), 80);
     let f = passage_finder::find(
         mode,
         number(row, 16),
@@ -142,9 +132,10 @@ pub(crate) fn show_row(input: &[u8], row: &[u8]) {
     show_write(&mode, input, row);
     let root = part(input, row, 12);
     let letter = part(input, row, 14);
-    show_check(&mode, number(row, 16), root, letter);
-    show_entry(&mode, number(row, 16), root, letter, number(row, 18));
-    show_entries(&mode, input, row);
+    let size = number(row, 16);
+    show_check(&mode, size, root, letter);
+    show_entry(&mode, size, root, letter, number(row, 18));
+    show_entries(&mode, size, root, letter, number(row, 19));
     show_find(&mode, input, row);
     end_line();
 }

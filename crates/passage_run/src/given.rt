@@ -1,4 +1,4 @@
-// What the calls are given: rows of 24 numbers of eight bytes, big-endian, and parts of the input that a row names by where they start and how many
+// What the calls are given: rows of 22 numbers of eight bytes, big-endian, and parts of the input that a row names by where they start and how many
 // bytes they have.
 ghost use Prim.Native.Nat.{_≤_};
 use runs::given::front;

@@ -11,7 +11,7 @@ fn show_rows(input: &[u8]) {
     let mut at = 8;
     while at < end {
         calls::show_row(input, &input[at..]);
-        at += 192;
+        at += 176;
     }
 }
 
