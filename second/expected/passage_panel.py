@@ -1,6 +1,7 @@
 """What the panel's program for passages must write on its stored input."""
 from expected.given import log_of, record_of
 from expected.panel import panel_input
+from rules.blake3 import PLAIN
 from rules.letters import MOST_ITEMS, PANEL_HEAD
 from rules.log import LONGEST_RECORD, NODE, root
 from rules.passages import ENTRY_HEAD, MOST_RECORDS, PASSAGE_HEAD, check_passage, passage_of
@@ -9,12 +10,12 @@ from rules.passages import ENTRY_HEAD, MOST_RECORDS, PASSAGE_HEAD, check_passage
 PASSAGE_PANEL_MOST = PANEL_HEAD + PASSAGE_HEAD + MOST_RECORDS * (ENTRY_HEAD + LONGEST_RECORD + NODE * MOST_ITEMS) + 1
 
 
-def passage_panel(data):
+def passage_panel(data, mode=PLAIN):
     """The verdict on what stands on its standard input: trusted size (8), root (32), one passage letter."""
     given = data[:PASSAGE_PANEL_MOST]
     if len(given) < PANEL_HEAD:
         return 12
-    return check_passage(int.from_bytes(given[:8], "big"), given[8:PANEL_HEAD], given[PANEL_HEAD:]).number
+    return check_passage(int.from_bytes(given[:8], "big"), given[8:PANEL_HEAD], given[PANEL_HEAD:], mode).number
 
 
 def passage_panel_stdin():

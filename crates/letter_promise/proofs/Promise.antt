@@ -30,7 +30,7 @@ use Rattle.letter_promise.proofs.Found.{accepted-ends, ours-same, same-
 
 module _ (digest : List ℕ → List ℕ) (digest-32 : (x : List ℕ) → length (digest x) ≡ 32) where
   -- the root that is answered is the tree's
-  of-every-log : (Says : List (List ℕ) → List ℕ → List ℕ → Type 0)
+  pub of-every-log : (Says : List (List ℕ) → List ℕ → List ℕ → Type 0)
       → ((rs : List (List ℕ)) (bs : List ℕ) → Kept digest rs bs → Says rs (root digest (tree (map digest rs))) bs) → OfEveryLog digest Says
   of-every-log Says law rs g bs b =
       let e : rootOutcome digest (logSize rs) bs .root ≡ root digest (tree (map digest rs)) =

@@ -1,6 +1,6 @@
 -- Fields that are written one after the other fill the first bytes of the output buffer with the letter.
 use mathlib.Core.Path.{_≡_, sym, ap, _∙_}
-use mathlib.Core.List.{List, [], _++_}
+use mathlib.Core.List.{List, _++_}
 use Prim.Native.Nat.{ℕ, _+_, _*_, _≤_, _<_}
 use native.Mathlib.Omega.{arith}
 use lib.ListN.{length, length-append}
@@ -10,8 +10,7 @@ use Rattle.order.specs.Order.{_under_}
 use Rattle.order.proofs.Laws.{Passes}
 use Rattle.wire.specs.Numbers.{be}
 use Rattle.wire.specs.Slices.{splice, written, joined}
-use Rattle.wire.specs.Writers.{WriteOutcome, wrote, writeRefused, writeDone}
-use Rattle.wire.specs.declared.Written.{Written}
+use Rattle.wire.specs.Writers.{wrote, writeDone}
 use Rattle.wire.proofs.Numbers.{be-length}
 use Rattle.wire.proofs.Splices.{written-fits, written-next}
 use Rattle.wire.proofs.Writers.{write-done}
@@ -24,10 +23,6 @@ use Rattle.letter.specs.Items.{itemCount, itemsOf, foreign}
 use Rattle.letter.proofs.ItemsOf.{items-bytes}
 use Rattle.letter.proofs.Spelling.{head-length, letter-bytes}
 use Rattle.letter_writer.specs.Outcome.{ourLetter, writeOrder}
-
--- a refusal, whatever the output buffer holds
-pub refused-is : {r : Written} {number : ℕ} (out : List ℕ) → wrote r [] ≡ writeRefused [] number → wrote r out ≡ writeRefused out number
-refused-is out e = ap (λ (o : WriteOutcome). record { number = o .number; length = o .length; bytes = out }) e
 
 module _ (size index : ℕ) (rec : List ℕ) (items : List (List ℕ)) where
   letter-filled : (out : List ℕ) {l₁ l₂ l₃ l₄ l₅ : List ℕ} → 20 + length rec + length (joined items) ≤ length out

@@ -13,6 +13,7 @@ use lib.ListN.{length, length-map}
 use lib.Seq.{append-snoc}
 use Rattle.order.proofs.Laws.{refuses}
 use Rattle.wire.specs.Slices.{splice, joined}
+use Rattle.wire.proofs.Lists.{none-of}
 use Rattle.shape.specs.Sizes.{countAnswer, leaves}
 use Rattle.shape.specs.Nodes.{newNodes}
 use Rattle.shape.specs.Tree.{places, inputs, hashedAt}
@@ -37,10 +38,6 @@ use Rattle.log.proofs.Appends.{step-taken, step-left, step-sound, empty
 perm-snoc : (t w n v : List (List ℕ)) (r : List ℕ) → Perm (w ++ n) v → Perm ((t ++ w) ++ (r ∷ n)) ((t ++ (r ∷ [])) ++ v)
 perm-snoc t w n v r f =
     rw (append-assoc t w (r ∷ n), append-snoc t r v) (Perm·append-left t (Perm·trans (perm-middle w n) (Perm·cons r f)))
-
-nothing : (rs : List (List ℕ)) → length rs ≡ 0 → rs ≡ []
-nothing [] e = refl
-nothing (r ∷ rs) e = absurd (omega arith)
 
 module _ (digest : List ℕ → List ℕ) where
   empty-tree : inputs digest (tree []) ≡ []
@@ -141,7 +138,7 @@ module _ (digest : List ℕ → List ℕ) where
         let n : leaves (s .size) ≡ 0 = ap leaves (g .size) ∙ k .value ∙ e in
         let o : rootRefused 10 ≡ rootOutcome digest (s .size) (s .bytes) = refuses 10 rootRefused _ _ refl (search needs) in
         let z : rootOutcome digest (s .size) (s .bytes) .number ≢ 0 = λ y. omega (arith, ap (λ (x : RootOutcome). x .number) o ∙ y) in
-        rw (root-left (s .size) (s .bytes) z, nothing (s .taken) e, within-none digest, empty-tree)
+        rw (root-left (s .size) (s .bytes) z, none-of (s .taken) e, within-none digest, empty-tree)
         (Perm·refl [])
 
     -- a run of appends to an empty log, refused ones among them, and then its root

@@ -5,7 +5,8 @@ use Prim.Native.Nat.{ℕ, _+_, _-_, _*_, _/_, _%_, _^_, _≤_, _<_}
 use native.Mathlib.Omega.{arith}
 use lib.Count.{ones}
 use lib.ListN.{length, take, drop, length-drop, take-append-drop}
-use lib.Seq.{length-take-le, take-all, drop-drop}
+use lib.Seq.{length-take-le, drop-drop}
+use Rattle.wire.proofs.Lists.{rest-all}
 use Rattle.compression.specs.Compression.{compressed}
 use Rattle.words.specs.Words.{wordsOf}
 use Rattle.chunks.specs.Chunks.{startFlag, chunked}
@@ -158,11 +159,8 @@ module _ (key : List ℕ) (flag : ℕ) (chain stack : List ℕ) (stacked total :
       }
 
   module _ {stack′ chain′ : List ℕ} {stacked′ at : ℕ} (w : Went key flag chain stack stacked total part stack′ chain′ stacked′ at) where
-    rest-is : take (length part - at) (drop at part) ≡ drop at part
-    rest-is = take-all (length part - at) (drop at part) (omega (arith, length-drop at part))
-
     pub rest-length : length (take (length part - at) (drop at part)) ≡ length part - at
-    rest-length = ap length rest-is ∙ length-drop at part
+    rest-length = ap length (rest-all at part) ∙ length-drop at part
 
     pub went-ready : Ready stacked′ (total + at) (length (take (length part - at) (drop at part)))
     went-ready =
@@ -180,7 +178,7 @@ module _ (key : List ℕ) (flag : ℕ) (chain stack : List ℕ) (stacked total :
           even = omega (arith, g .even, w .even);
           count = g .count ∙ ap (λ (t : ℕ). ones (t / 1024)) e;
           is =
-              w .is ∙ ap (taken key flag (between (subtrees stack′ stacked′) chain′ (total + at))) (sym rest-is) ∙ g .is
+              w .is ∙ ap (taken key flag (between (subtrees stack′ stacked′) chain′ (total + at))) (sym (rest-all at part)) ∙ g .is
               ∙ ap₂ (λ (t : ℕ) (bs : List ℕ). taken key flag (between (subtrees stack″ stacked″) chain″ t) bs) e
-              (ap (drop by) rest-is ∙ drop-drop by at part);
+              (ap (drop by) (rest-all at part) ∙ drop-drop by at part);
         }

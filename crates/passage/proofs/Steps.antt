@@ -3,8 +3,8 @@ use Prim.Native.Nat.{ℕ, _+_, _-_}
 use mathlib.Core.List.{List}
 use native.Mathlib.Omega.{arith}
 use lib.ListN.{length, length-take, length-drop, take, drop}
+use Rattle.wire.proofs.Lists.{rest-all}
 use Rattle.shape.proofs.Powers.{Halved}
-use Rattle.views.proofs.Heights.{rest-all}
 use Rattle.passage.specs.Steps.{Countable}
 
 module _ (h p : ℕ) (is : List ℕ) {half : ℕ} where

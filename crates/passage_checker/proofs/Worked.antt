@@ -5,7 +5,7 @@ use Prim.Native.Nat.{ℕ, _-_, _^_, _≤_, _<_}
 use native.Mathlib.Omega.{arith}
 use lib.ListN.{length, take, drop}
 use Rattle.views.specs.Passage.{Rising}
-use Rattle.views.proofs.Heights.{rest-all}
+use Rattle.wire.proofs.Lists.{rest-all}
 use Rattle.passage.specs.Bytes.{places, indexesIn, endIn}
 use Rattle.passage.specs.Digests.{workedRoot}
 use Rattle.passage_fields.specs.declared.Fields.{Fields}

@@ -8,7 +8,7 @@ use Rattle.order.specs.Order.{firstNumber}
 use Rattle.order.proofs.Laws.{Passes, number-is, accepted}
 use Rattle.wire.specs.Slices.{rowsFrom}
 use Rattle.wire.proofs.Rows.{digests-drop}
-use Rattle.views.proofs.Heights.{rest-all}
+use Rattle.wire.proofs.Lists.{rest-all}
 use Rattle.passage.specs.Bytes.{countIn, places, indexesIn, endIn, digestsIn}
 use Rattle.passage.specs.Checking.{fieldsOrder}
 use Rattle.passage_fields.specs.Fields.{FieldsOutcome, takenApart, fieldsRefused, fieldsDone, fieldsOutcome}

@@ -6,6 +6,7 @@ use mathlib.Core.List.{List}
 use Prim.Native.Nat.{ℕ, _-_, _<_}
 use native.Mathlib.Omega.{arith}
 use lib.ListN.{length, take, drop}
+use Rattle.wire.proofs.Lists.{rest-all}
 use Rattle.digest.specs.Digest.{digestIn, digest-length}
 use Rattle.order.specs.Order.{verdict, firstNumber}
 use Rattle.order.proofs.Laws.{refused-by}
@@ -17,7 +18,6 @@ use Rattle.shape.proofs.Counting.{Counts}
 use Rattle.nodes.specs.Nodes.{nodeIn}
 use Rattle.views.specs.Passage.{passage}
 use Rattle.views.specs.Shows.{onTop, seenBy, brokenBy}
-use Rattle.views.proofs.Heights.{rest-all}
 use Rattle.inputs.specs.Inputs.{told}
 use Rattle.letter_finder.specs.Outcome.{ownRoot}
 use Rattle.findings.specs.Outcome.{NamedOutcome, namedRefused}

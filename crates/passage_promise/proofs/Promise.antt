@@ -1,26 +1,22 @@
 -- The promise for passages, over any digest function with digests of 32 bytes, and for BLAKE3 in every mode.
-use mathlib.Core.Path.{_≡_, sym, ap, subst, _∙_}
-use mathlib.Core.List.{List, map}
+use mathlib.Core.Path.{_≡_, sym, _∙_}
+use mathlib.Core.List.{List}
 use Prim.Native.Nat.{ℕ, _*_}
 use native.Mathlib.Omega.{arith}
 use lib.ListN.{length}
 use Rattle.digest.specs.Digest.{digestIn, digest-length}
 use Rattle.order.specs.Order.{_under_}
 use Rattle.shape.specs.Sizes.{leaves}
-use Rattle.shape.specs.Tree.{root}
-use Rattle.shape.specs.Folded.{tree}
 use Rattle.nodes.specs.Nodes.{nodeIn}
 use Rattle.nodes.proofs.Joined.{node-length}
-use Rattle.log.specs.Outcome.{RootOutcome, rootOutcome}
-use Rattle.log.proofs.Grown.{root-of-log}
 use Rattle.letter_promise.specs.Terms.{logSize}
-use Rattle.letter_promise.specs.Promise.{OfEveryLog}
 use Rattle.passage_finder.specs.Outcome.{findOutcome}
 use Rattle.passage_promise.specs.Terms.{recordsAt}
 use Rattle.passage_promise.specs.Promise.{ours, EveryPassageAccepted, EveryAcceptedEnds, EveryOursSame, EverySameOurs}
 use Rattle.passage_promise.specs.Promise.{PassageAccepted, AcceptedPassageIsOurs, OursIsSame, SameIsOurs}
 use Rattle.passage_promise.specs.Promise.{FoundNamed, OnePassage, AcceptedHanded}
 use Rattle.letter_promise.proofs.Kept.{Kept, kept, logRoot, counts, root-length}
+use Rattle.letter_promise.proofs.Promise.{of-every-log}
 use Rattle.passage_promise.proofs.Ours.{letter-own, ours-indexes, ours-records, ours-passed}
 use Rattle.passage_promise.proofs.Checked.{Checks, passed-request, accepted-checks, checks-accepted}
 use Rattle.passage_promise.proofs.Written.{ours-written}
@@ -47,28 +43,20 @@ passages-accepted {digest} {rs} {bs} k is q out room =
     }
 
 module _ (digest : List ℕ → List ℕ) (digest-32 : (x : List ℕ) → length (digest x) ≡ 32) where
-  -- the root that is answered is the tree's
-  of-every-log : (Says : List (List ℕ) → List ℕ → List ℕ → Type 0)
-      → ((rs : List (List ℕ)) (bs : List ℕ) → Kept digest rs bs → Says rs (root digest (tree (map digest rs))) bs) → OfEveryLog digest Says
-  of-every-log Says law rs g bs b =
-      let e : rootOutcome digest (logSize rs) bs .root ≡ root digest (tree (map digest rs)) =
-      ap (λ (o : RootOutcome). o .root) (root-of-log digest digest-32 rs bs (g .some) (g .few) b) in
-      subst (λ (d : List ℕ). Says rs d bs) (sym e) (law rs bs (kept digest digest-32 rs bs g b))
-
   -- the letters that we write are accepted
   pub passage-accepted-over : PassageAccepted digest
-  passage-accepted-over = of-every-log (EveryPassageAccepted digest) (λ rs bs k. passages-accepted k)
+  passage-accepted-over = of-every-log digest digest-32 (EveryPassageAccepted digest) (λ rs bs k. passages-accepted k)
 
   -- accepted bytes are our letter, or the finder's own two strings have one digest
   pub accepted-passage-is-ours-over : AcceptedPassageIsOurs digest
-  accepted-passage-is-ours-over = of-every-log (EveryAcceptedEnds digest) (λ rs bs k. accepted-ends k)
+  accepted-passage-is-ours-over = of-every-log digest digest-32 (EveryAcceptedEnds digest) (λ rs bs k. accepted-ends k)
 
   -- the other direction
   pub ours-is-same-over : OursIsSame digest
-  ours-is-same-over = of-every-log (EveryOursSame digest) (λ rs bs k. ours-same k)
+  ours-is-same-over = of-every-log digest digest-32 (EveryOursSame digest) (λ rs bs k. ours-same k)
 
   pub same-is-ours-over : SameIsOurs digest
-  same-is-ours-over = of-every-log (EverySameOurs digest) (λ rs bs k. same-ours k)
+  same-is-ours-over = of-every-log digest digest-32 (EverySameOurs digest) (λ rs bs k. same-ours k)
 
   -- what the finder names does collide, whatever it was given
   pub found-named-over : FoundNamed digest

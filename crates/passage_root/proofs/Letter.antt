@@ -1,12 +1,12 @@
 -- The root worked out from the digests of a letter's records and the bytes behind these is the letter's.
 use mathlib.Core.Path.{_≡_, sym, ap, _∙_}
 use mathlib.Core.List.{List, [], map, map-map}
-use Prim.Native.Nat.{ℕ, zero, suc, _+_, _*_, _^_, _≤_, _<_}
+use Prim.Native.Nat.{ℕ, _*_, _^_, _≤_, _<_}
 use native.Mathlib.Nat.{zero-add}
 use native.Mathlib.Omega.{arith}
 use lib.ListN.{length, length-map, getD, drop}
-use Rattle.wire.specs.Slices.{part, rowsFrom}
 use Rattle.wire.proofs.Parts.{part-drop}
+use Rattle.wire.proofs.Rows.{digests-at}
 use Rattle.shape.specs.Sizes.{heightOf}
 use Rattle.shape.specs.Tree.{root}
 use Rattle.nodes.specs.Nodes.{nodeIn}
@@ -21,17 +21,10 @@ use Rattle.passage_root.specs.Root.{leafDigests, rootFrom}
 use Rattle.passage_root.proofs.Hashed.{map-at, leaf-in}
 use Rattle.passage_root.proofs.Root.{root-within}
 
--- number j of k digests in a row
-row-at : (at k : ℕ) (bs : List ℕ) (j : ℕ) → j < k → getD (rowsFrom 32 at k bs) j [] ≡ part (at + 32 * j) 32 bs
-unfolding rowsFrom
-row-at at zero bs j h = absurd (omega arith)
-row-at at (suc k) bs zero h = ap (λ (p : ℕ). part p 32 bs) (omega arith)
-row-at at (suc k) bs (suc j) h = row-at (at + 32) k bs j (omega arith) ∙ ap (λ (p : ℕ). part p 32 bs) (omega arith)
-
 -- the digests that follow the records, by their numbers
 given-in : (k : ℕ) (letter : List ℕ) (j : ℕ) → j < k → getD (digestsIn k letter) j [] ≡ nodeIn (drop (endIn letter) letter) j
 unfolding digestsIn nodeIn
-given-in k letter j h = row-at (endIn letter) k letter j h ∙ sym (part-drop (32 * j) 32 (endIn letter) letter)
+given-in k letter j h = digests-at (endIn letter) k letter j h ∙ sym (part-drop (32 * j) 32 (endIn letter) letter)
 
 module _ (digest : List ℕ → List ℕ) (digest-32 : (x : List ℕ) → length (digest x) ≡ 32) (n : ℕ) (letter : List ℕ)
     (some : 0 < n) (most : n ≤ 2 ^ 32) (few : length (places letter) ≤ 256) where

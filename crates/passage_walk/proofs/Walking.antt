@@ -10,7 +10,8 @@ use Rattle.shape.proofs.Powers.{Halved}
 use Rattle.views.specs.Passage.{under, passageIn}
 use Rattle.views.proofs.Bounds.{passage-few, passage-asks-most}
 use Rattle.views.proofs.Sides.{top-any}
-use Rattle.views.proofs.Heights.{rest-all, passage-empty, passage-one, passage-below, passage-sides}
+use Rattle.wire.proofs.Lists.{rest-all}
+use Rattle.views.proofs.Heights.{passage-empty, passage-one, passage-below, passage-sides}
 use Rattle.views.proofs.Walks.{taken-given, found-given, taken-asked, found-asked, taken-fork, found-fork}
 use Rattle.nodes.specs.Nodes.{nodeIn}
 use Rattle.nodes.proofs.From.{from-any}

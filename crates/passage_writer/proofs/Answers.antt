@@ -7,8 +7,7 @@ use native.Mathlib.Omega.{arith}
 use lib.ListN.{length}
 use Rattle.order.specs.Order.{Refusal, _if_, _is_, _under_, firstNumber}
 use Rattle.order.proofs.Laws.{Passes, refuses, passes, early, late, first-next}
-use Rattle.wire.specs.Writers.{WriteOutcome, wrote, writeRefused, writeDone}
-use Rattle.wire.specs.declared.Written.{Written}
+use Rattle.wire.specs.Writers.{WriteOutcome, writeRefused, writeDone}
 use Rattle.records.specs.Records.{cut}
 use Rattle.shape.specs.Sizes.{countAnswer, leaves}
 use Rattle.shape.proofs.Counting.{Counts}
@@ -16,10 +15,6 @@ use Rattle.nodes.specs.Nodes.{nodeIn}
 use Rattle.passage_writer.specs.Outcome.{ourPassage, writeOrder, writeOver, writeOutcome}
 use Rattle.passage_writer.specs.Steps.{innerOrder}
 use Rattle.passage_writer.proofs.Parts.{inner-pass}
-
--- a refusal, whatever the output buffer holds
-pub refused-is : {r : Written} {number : ℕ} (out : List ℕ) → wrote r [] ≡ writeRefused [] number → wrote r out ≡ writeRefused out number
-refused-is out e = ap (λ (o : WriteOutcome). record { number = o .number; length = o .length; bytes = out }) e
 
 module _ (digest : List ℕ → List ℕ) (size : ℕ) (indexes records lengths bs out : List ℕ) where
   -- for m leaves, all refusals but the first and the last

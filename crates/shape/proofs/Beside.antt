@@ -30,7 +30,7 @@ use Rattle.shape.proofs.Reading.{fold-length}
 use Rattle.shape.proofs.Seen.{seen-low, seen-left, seen-right, topDiffers, broken-one, broken-low, broken-left, broken-right}
 
 -- where neither of two is 1
-either-zero : (x y : ℕ) → either x y ≡ 0 → (x ≡ 0) × (y ≡ 0)
+pub either-zero : (x y : ℕ) → either x y ≡ 0 → (x ≡ 0) × (y ≡ 0)
 either-zero zero y e = (refl, e)
 either-zero (suc x) y e = absurd (omega arith)
 

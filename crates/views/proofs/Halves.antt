@@ -1,7 +1,7 @@
 -- Half-time: nodes of two logs and a letter with both roots agree on the old log's leaves, or the comparison finds a collision; and for a true
 -- start the new log's own letter gives both roots. What is cited: `half-bind`, `half-digests`, `start-exact`, `start-new`, `start-old`.
-use mathlib.Core.Path.{_≡_, refl, sym, ap, _∙_}
-use mathlib.Core.List.{List, [], _∷_, _++_, map}
+use mathlib.Core.Path.{_≡_, sym, ap, _∙_}
+use mathlib.Core.List.{List, [], _++_, map}
 use Prim.Native.Nat.{ℕ, _≤_, _<_}
 use native.Mathlib.Nat.{zero-add}
 use native.Mathlib.Omega.{arith}
@@ -14,6 +14,7 @@ use Rattle.shape.specs.Folded.{tree}
 use Rattle.shape.specs.Nodes.{Holds, nodes}
 use Rattle.shape.specs.Difference.{Shown}
 use Rattle.shape.proofs.Difference.{shown-map}
+use Rattle.wire.proofs.Lists.{none-of}
 use Rattle.wire.proofs.Each.{each-take}
 use Rattle.shape.proofs.Nodes.{nodes-length}
 use Rattle.shape.proofs.Leaves.{later-keeps, leaf-digest}
@@ -28,10 +29,6 @@ use Rattle.views.proofs.Nodes.{gives-exact, leaves-exact, planted, node
 use Rattle.views.proofs.Own.{own-by}
 use Rattle.views.proofs.Starts.{start-of, start-askeds, old-peaks, start-first, start-more}
 use Rattle.views.proofs.Inside.{sound-view, sound-start, inside-bind}
-
-none-of : (xs : List (List ℕ)) → length xs ≡ 0 → xs ≡ []
-none-of [] e = refl
-none-of (x ∷ xs) e = absurd (omega arith)
 
 -- ---- any nodes
 

@@ -4,9 +4,9 @@ use mathlib.Core.Path.{_≡_, sym, ap, ap₂, _∙_}
 use mathlib.Core.List.{List, [], _∷_, _++_}
 use Prim.Native.Nat.{ℕ, suc, _+_, _-_, _*_, _^_, _≤_, _<_}
 use native.Mathlib.Omega.{arith}
-use lib.ListN.{length, length-drop, take, drop}
-use lib.Seq.{take-all}
+use lib.ListN.{length, take, drop}
 use Rattle.wire.specs.Slices.{differ}
+use Rattle.wire.proofs.Lists.{rest-all}
 use Rattle.shape.specs.Positions.{top, behind}
 use Rattle.shape.specs.Seen.{either, sides}
 use Rattle.shape.specs.Tree.{root, inputs}
@@ -33,10 +33,6 @@ passage-empty h n p (i ∷ is) e = absurd (omega arith)
 pub passage-one : (h n p : ℕ) (is : List ℕ) → h ≡ 0 → 0 < length is → passageIn h n p is ≡ asked
 passage-one h n p [] z q = absurd (omega arith)
 passage-one h n p (i ∷ is) z q = rw z (passage-leaf n p i is)
-
--- a slice from place k on, as the code has it
-pub rest-all : (k : ℕ) (is : List ℕ) → take (length is - k) (drop k is) ≡ drop k is
-rest-all k is = take-all (length is - k) (drop k is) (omega (arith, length-drop k is))
 
 module _ (h half : ℕ) (t : Halved h half) where
   pub passage-below : (n p : ℕ) (is : List ℕ) → n ≤ half → passageIn h n p is ≡ passageIn (h - 1) n p is

@@ -25,7 +25,7 @@ use Rattle.views.specs.View.{View, given, asked, both, side, ViewOf}
 use Rattle.views.specs.Start.{full}
 use Rattle.views.specs.Shows.{brokenTop, seenBy, brokenBy, insideIn, inside, unsoundIn, unsound}
 use Rattle.views.proofs.Sides.{side-is, side-holds, side-below, top-peak, broken-within, broken-above, seen-fork, broken-fork}
-use Rattle.views.proofs.Nodes.{either-zero}
+use Rattle.shape.proofs.Beside.{either-zero}
 
 pub full-view : (k : ℕ) → ViewOf (2 ^ k) (full k)
 full-view zero = refl

@@ -1,7 +1,7 @@
 -- What any nodes show under a view: where no node looked into is broken, it is what the tree that they make hashes; and one root binds it.
 use mathlib.Core.Path.{_≡_, refl, sym, ap, ap₂, _∙_}
 use mathlib.Core.List.{List, [], _++_, append-assoc, append-nil}
-use Prim.Native.Nat.{ℕ, zero, suc, _-_, _^_, _<_}
+use Prim.Native.Nat.{ℕ, suc, _-_, _^_, _<_}
 use native.Mathlib.Omega.{arith}
 use lib.ListN.{length, length-append}
 use lib.Seq.{drop-at}
@@ -10,23 +10,18 @@ use Rattle.shape.specs.Sizes.{heightOf}
 use Rattle.wire.specs.Slices.{Each}
 use Rattle.shape.specs.Tree.{fork, root, inputs}
 use Rattle.shape.specs.Positions.{behind, peaksIn}
-use Rattle.shape.specs.Seen.{either}
 use Rattle.shape.specs.Difference.{Shown}
 use Rattle.shape.proofs.Heights.{height-above}
 use Rattle.wire.proofs.Each.{each-append}
 use Rattle.wire.proofs.Differences.{same-of-differ}
 use Rattle.shape.proofs.Peaks.{peaks-some}
+use Rattle.shape.proofs.Beside.{either-zero}
 use Rattle.shape.proofs.Reading.{fold-length}
 use Rattle.views.specs.View.{View, given, asked, both, givens, askeds, plant, side, ViewOf}
 use Rattle.views.specs.Shows.{onTop, brokenTop, seenBy, brokenBy, givesBy, leavesBy, treeBy}
 use Rattle.views.specs.Compared.{compared}
 use Rattle.views.proofs.Sides.{side-holds, side-below, top-one, sides-tops, broken-top}
 use Rattle.views.proofs.Planted.{Exact, plant-bind}
-
--- where neither of two is 1
-pub either-zero : (x y : ℕ) → either x y ≡ 0 → (x ≡ 0) × (y ≡ 0)
-either-zero zero y e = (refl, e)
-either-zero (suc x) y e = absurd (omega arith)
 
 module _ (digest : List ℕ → List ℕ) (node : ℕ → List ℕ) where
   -- as many as the view takes

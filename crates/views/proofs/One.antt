@@ -15,6 +15,7 @@ use Rattle.shape.specs.Tree.{Tree, fork, tip, Turn, left, right, past, root}
 use Rattle.shape.specs.Folded.{tree}
 use Rattle.shape.specs.Letter.{rightward, Leads, here, to-left, to-right, to-past, fill, items}
 use Rattle.shape.specs.Way.{wayIn, way}
+use Rattle.wire.proofs.Lists.{none-of}
 use Rattle.shape.proofs.Heights.{height-holds}
 use Rattle.shape.proofs.Letters.{items-length}
 use Rattle.shape.proofs.Ways.{way-low, way-left, way-turn, way-leads}
@@ -96,10 +97,6 @@ snoc xs n e = sym (take-suc xs n [] (omega arith)) ∙ take-all (suc n) xs (omeg
 uncons : (xs : List (List ℕ)) (n : ℕ) → length xs ≡ suc n → getD xs 0 [] ∷ drop 1 xs ≡ xs
 uncons xs n e = sym (drop-cons xs 0 [] (omega arith))
 
-none-of : (xs : List (List ℕ)) → length xs ≡ 0 → [] ≡ xs
-none-of [] e = refl
-none-of (x ∷ xs) e = absurd (omega arith)
-
 module _ (w : List Turn) (xs : List (List ℕ)) (e : length xs ≡ suc (length w)) where
   most-length : length (take (length w) xs) ≡ length w
   most-length = length-take-le (length w) xs (omega arith)
@@ -116,7 +113,7 @@ before-it x xs = x ∷ xs
 
 -- the digests of a passage of one index are some items in the walk's order ..
 pub walk-letter : (w : List Turn) (ys : List (List ℕ)) → length ys ≡ length w → walkOrder w (letterOrder w ys) ≡ ys
-walk-letter [] ys e = none-of ys e
+walk-letter [] ys e = sym (none-of ys e)
 walk-letter (left ∷ w) ys e =
     let zs = letterOrder w (take (length w) ys) in
     let z = getD ys (length w) [] in
@@ -135,7 +132,7 @@ walk-letter (past ∷ w) ys e = ap (before-it (getD ys 0 [])) (walk-letter w (dr
 
 -- .. and no two lists of items come out as one
 pub letter-walk : (w : List Turn) (xs : List (List ℕ)) → length xs ≡ length w → letterOrder w (walkOrder w xs) ≡ xs
-letter-walk [] xs e = none-of xs e
+letter-walk [] xs e = sym (none-of xs e)
 letter-walk (left ∷ w) xs e =
     let zs = walkOrder w (take (length w) xs) in
     let z = getD xs (length w) [] in

@@ -21,7 +21,7 @@ use Rattle.shape.proofs.Leaves.{leaf-read, leaf-digest}
 use Rattle.views.specs.Start.{full}
 use Rattle.views.specs.Half.{Sound}
 use Rattle.views.specs.Shows.{brokenBy, unsoundIn, unsound}
-use Rattle.views.proofs.Nodes.{either-zero}
+use Rattle.shape.proofs.Beside.{either-zero}
 use Rattle.views.proofs.Own.{held-left, held-right, own-by}
 use Rattle.views.proofs.Inside.{full-view, unsound-skip, unsound-take, whole-parts}
 

@@ -1,4 +1,5 @@
 -- The laws of the definitions.
+pub mod Lists
 pub mod Numbers
 pub mod Parts
 pub mod Splices

@@ -17,7 +17,8 @@ unfolding rowsFrom
 digests-each at zero bs = tt
 digests-each at (suc k) bs = (part-length at 32 bs, digests-each (at + 32) k bs)
 
-digests-at : (at k : ℕ) (bs : List ℕ) (j : ℕ) → j < k → getD (rowsFrom 32 at k bs) j [] ≡ part (at + 32 * j) 32 bs
+-- number j of k digests in a row
+pub digests-at : (at k : ℕ) (bs : List ℕ) (j : ℕ) → j < k → getD (rowsFrom 32 at k bs) j [] ≡ part (at + 32 * j) 32 bs
 unfolding rowsFrom
 digests-at at zero bs j h = absurd (omega arith)
 digests-at at (suc k) bs zero h = ap (λ (p : ℕ). part p 32 bs) (omega arith)

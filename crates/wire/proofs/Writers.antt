@@ -1,11 +1,15 @@
--- A writer: the outcome of one that is done, and that its outcome tells any two answers and any two buffers apart.
-use mathlib.Core.Path.{_≡_, sym, _∙_}
-use mathlib.Core.List.{List}
+-- A writer: the outcome of one that refuses and of one that is done, and that its outcome tells any two answers and any two buffers apart.
+use mathlib.Core.Path.{_≡_, sym, ap, _∙_}
+use mathlib.Core.List.{List, []}
 use Prim.Native.Nat.{ℕ}
 use lib.ListN.{length}
 use Rattle.wire.specs.Slices.{splice}
 use Rattle.wire.specs.declared.Written.{Written}
-use Rattle.wire.specs.Writers.{WriteOutcome, wrote, writeDone}
+use Rattle.wire.specs.Writers.{WriteOutcome, wrote, writeRefused, writeDone}
+
+-- a refusal, whatever the output buffer holds
+pub refused-is : {r : Written} {number : ℕ} (out : List ℕ) → wrote r [] ≡ writeRefused [] number → wrote r out ≡ writeRefused out number
+refused-is out e = ap (λ (o : WriteOutcome). record { number = o .number; length = o .length; bytes = out }) e
 
 -- the answer and the bytes of a writer that is done
 pub write-done : (bytes out last : List ℕ) (n : ℕ) → n ≡ length bytes → last ≡ splice 0 bytes out

@@ -3,8 +3,9 @@ use mathlib.Core.Path.{_≡_, sym, ap, ap₂, _∙_}
 use mathlib.Core.List.{List}
 use Prim.Native.Nat.{ℕ, _-_, _≤_}
 use native.Mathlib.Omega.{arith}
-use lib.ListN.{length, take, drop, length-drop}
-use lib.Seq.{take-all, length-take-le}
+use lib.ListN.{length, take, drop}
+use lib.Seq.{length-take-le}
+use Rattle.wire.proofs.Lists.{rest-all}
 use Rattle.digest.specs.Digest.{digestIn}
 use Rattle.digest.specs.declared.Moded.{Moded}
 use Rattle.digest.specs.Modes.{keyAnswer}
@@ -22,7 +23,7 @@ behind input {k} h e f =
     let n : length (take 32 input) ≡ 32 = length-take-le 32 input h in
     f
     ∙ ap₂ (λ (m x : List ℕ). judged (digestIn m) x) (ap (λ (a : Moded). a .mode) (e ∙ key-taken (take 32 input) n))
-    (take-all (length input - 32) (drop 32 input) (rw length-drop (omega arith)))
+    (rest-all 32 input)
     ∙ sym (keyed-judged input h)
 
 returns : tie.Need-returns

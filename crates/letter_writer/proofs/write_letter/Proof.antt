@@ -11,8 +11,9 @@ use Rattle.nodes.specs.Nodes.{nodeIn}
 use Rattle.letter.specs.Items.{foreign}
 use Rattle.letter.proofs.Foreign.{foreign-by}
 use Rattle.letter.proofs.ItemsOf.{count-at-most}
+use Rattle.wire.proofs.Writers.{refused-is}
 use Rattle.letter_writer.specs.Outcome.{writeOrder, writeOver, writeOutcome}
-use Rattle.letter_writer.proofs.Fills.{refused-is, our-length, letter-done, none-applies}
+use Rattle.letter_writer.proofs.Fills.{our-length, letter-done, none-applies}
 use borrow.Author.Needs.{needs}
 use Rattle.letter_writer.proofs.write_letter.Statement.{statement}
 use Rattle.letter_writer.proofs.write_letter.Tie as tie

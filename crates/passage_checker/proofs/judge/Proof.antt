@@ -4,10 +4,10 @@ use mathlib.Core.List.{List}
 use Prim.Native.Nat.{ℕ, _-_, _≤_, _<_}
 use native.Mathlib.Omega.{arith}
 use borrow.Author.Tests.{lt-ltb, le-ltb}
-use lib.ListN.{length, take, drop, length-drop}
-use lib.Seq.{take-all}
+use lib.ListN.{length, take, drop}
 use Rattle.wire.specs.Numbers.{number}
 use Rattle.wire.specs.Slices.{part}
+use Rattle.wire.proofs.Lists.{rest-all}
 use Rattle.wire.proofs.Lent.{slice-part}
 use Rattle.passage_checker.specs.declared.Checked.{Checked}
 use Rattle.passage_checker.specs.Outcome.{CheckOutcome, checked, checkOutcome, judged}
@@ -25,9 +25,8 @@ whole : (digest : List ℕ → List ℕ) (input : List ℕ) (size : ℕ) {r : Ch
     → r .number ≡ judged digest input
 unfolding judged
 whole digest input size {r} h s e =
-    let d : take (length input - 40) (drop 40 input) ≡ drop 40 input = take-all (length input - 40) (drop 40 input) (rw length-drop (omega arith)) in
     let f : checked r ≡ checkOutcome digest (number (part 0 8 input)) (part 8 32 input) (drop 40 input) =
-    rw (s, slice-part 8 32 input (omega arith), d) at e in
+    rw (s, slice-part 8 32 input (omega arith), rest-all 40 input) at e in
     rw (le-ltb (length input) 40 h, judged) (ap (λ (o : CheckOutcome). o .number) f)
 
 returns : tie.Need-returns

@@ -7,7 +7,7 @@ use borrow.Author.Needs.{needs}
 use denote.Ref.{RefT}
 use lib.ListN.{length, drop, drop-of-length-le}
 use lib.Seq.{drop-length}
-use Rattle.views.proofs.Heights.{rest-all}
+use Rattle.wire.proofs.Lists.{rest-all}
 use Rattle.passage_fields.specs.Steps.{restPart}
 use Rattle.passage_fields.proofs.rest_at.Statement.{statement}
 use Rattle.passage_fields.proofs.rest_at.Tie as tie

@@ -11,10 +11,11 @@ use Rattle.shape.proofs.Counting.{Counts, counts-leaves, counts-none}
 use Rattle.nodes.specs.Nodes.{nodeIn}
 use Rattle.passage.specs.Digests.{digestCount}
 use Rattle.passage.proofs.Digests.{count-few}
+use Rattle.wire.proofs.Writers.{refused-is}
 use Rattle.passage_writer.specs.Steps.{innerOrder, endOf}
 use Rattle.passage_writer.proofs.Parts.{Known, inner-known}
 use Rattle.passage_writer.proofs.Fills.{our-length, passage-done}
-use Rattle.passage_writer.proofs.Answers.{refused-is, by-size, by-inner, by-room, by-none}
+use Rattle.passage_writer.proofs.Answers.{by-size, by-inner, by-room, by-none}
 use Rattle.passage_writer.proofs.write_passage.Statement.{statement}
 use Rattle.passage_writer.proofs.write_passage.Tie as tie
 

@@ -7,10 +7,11 @@ use lib.Seq.{length-take-le}
 use borrow.Author.Needs.{needs}
 use borrow.Fn.Kinds.{In}
 use borrow.Fn.PlainCycle.{Measures, is, falls, and}
+use Rattle.wire.proofs.Lists.{rest-all}
 use Rattle.shape.proofs.Powers.{halved}
 use Rattle.views.specs.View.{givens}
 use Rattle.views.proofs.Bounds.{passage-few}
-use Rattle.views.proofs.Heights.{passage-empty, passage-one, passage-below, passage-sides, rest-all}
+use Rattle.views.proofs.Heights.{passage-empty, passage-one, passage-below, passage-sides}
 use Rattle.passage.proofs.Steps.{countable-low, countable-left, countable-right}
 use Rattle.passage.proofs.count.count.Reads as count
 use Rattle.passage.proofs.count.count.Kinds as count-kinds
