@@ -13,7 +13,7 @@ to=${DESTDIR-}$prefix_given
 version=$(cat "$top/VERSION")
 built=$top/target/hosts/keeper
 [ "$machine" = x86_64 ] || built=$built.x86_64
-panels='panel keyed_panel passage_panel'
+panels='panel keyed_panel passage_panel keyed_passage_panel'
 set -- "$built" "$top/target/staticlib/libkeeper.a" "$top/target/run/ld-linux-x86-64.so.2"
 for name in $panels; do set -- "$@" "$top/target/bin/$name"; done
 for file; do

@@ -1,10 +1,10 @@
 #!/usr/bin/env python3
-"""A panel's program held to its file of vectors/, panel.json, panel-keyed.json or passages-checked.json: run on each input, and its number compared
-with the file's.
+"""A panel's program held to its file of vectors/, panel.json, panel-keyed.json, passages-checked.json or keyed.json: run on each input, and its number
+compared with the file's.
 
-An input is given at once, and some in pieces. The program for passages is run on what panel_passages.py has.
+An input is given at once, and some in pieces. The programs for passages are run on what panel_passages.py has.
 
-    panel.py PROGRAM WORD..                which program it is, panel, keyed_panel or passage_panel, and the words that start it
+    panel.py PROGRAM WORD..                which program it is, by the name of its crate, and the words that start it
     panel.py --self-test PROGRAM WORD..    only try that a wrong number is noticed (each run begins with this)
 
 Exit status: 0 where all agree; 1 where one differs, which is printed.
@@ -15,7 +15,7 @@ import sys
 import time
 from concurrent.futures import ThreadPoolExecutor
 
-from panel_passages import passage_inputs
+from panel_passages import PROGRAMS, passage_inputs
 from vector_cases import vectors
 
 # An input that is given in pieces too: how long it is at least, and in how many.
@@ -45,8 +45,8 @@ def run_panel(words, data, pieces):
 
 def inputs_of(program):
     """A name, the input, and the number."""
-    if program == "passage_panel":
-        return passage_inputs()
+    if program in PROGRAMS:
+        return passage_inputs(program)
     return ((vector.name, vector.given["input"], vector.answer["number"]) for vector in vectors() if vector.call == program)
 
 
@@ -79,7 +79,7 @@ def self_test(program, words):
 def main():
     parser = argparse.ArgumentParser(description=__doc__, formatter_class=argparse.RawDescriptionHelpFormatter)
     parser.add_argument("--self-test", action="store_true", help="only try that a wrong number is noticed")
-    parser.add_argument("program", choices=("panel", "keyed_panel", "passage_panel"), help="which program it is")
+    parser.add_argument("program", choices=("panel", "keyed_panel", *PROGRAMS), help="which program it is")
     parser.add_argument("words", nargs=argparse.REMAINDER, help="what starts the program")
     given = parser.parse_args()
     noticed = self_test(given.program, given.words)

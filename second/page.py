@@ -4,7 +4,7 @@ import re
 from pathlib import Path
 
 from expected.given import KEYS, LEAGUES, counting_bytes
-from page_passages import passage_bytes_shown, passage_order_rows, passage_rows, passage_sentences, passages_as_said
+from page_passages import panels_as_said, passage_bytes_shown, passage_order_rows, passage_rows, passage_sentences, passages_as_said
 from portable.orders import FROM_7, ORDERS
 from rules.batch import append_many
 from rules.blake3 import BLOCK, CHUNK, KEY, PLAIN, Mode, bytes_of, digest, keyed, words_of
@@ -307,7 +307,8 @@ def citations_stand(page):
 
 def check_page():
     """Its examples, the numbers that it gives them, and what cites it."""
-    page, told = PAGE.read_text(), as_said() and keyed_as_said() and parts_as_said() and batches_as_said() and passages_as_said()
+    page = PAGE.read_text()
+    told = as_said() and keyed_as_said() and parts_as_said() and batches_as_said() and passages_as_said() and panels_as_said()
     if not told:
         print("rules: an example of docs/RULES.md has another number than the page says")
     good = examples_stand(page)

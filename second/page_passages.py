@@ -1,13 +1,17 @@
-"""Section 12 of docs/RULES.md, passages, and what the tables of other sections have of it: its examples as the rules make them."""
+"""Section 12 of docs/RULES.md, passages, their programs in sections 11.3 and 11.4, and what the tables of other sections have of them: the examples
+as the rules make them."""
 import functools
 
-from expected.given import LEAGUES, run_record
+from expected.given import KEYS, LEAGUES, run_record
+from expected.keyed_passage_panel import keyed_passage_panel
+from expected.panel import panel_input
+from expected.passage_panel import PASSAGE_PANEL_MOST, passage_panel
 from grown import log_of
 from portable.letters import restated
 from portable.passage_orders import EACH, PASSAGE_FROM_7, PASSAGE_ORDERS
-from rules.blake3 import PLAIN, digest
+from rules.blake3 import KEY, PLAIN, digest
 from rules.finder import PAIR
-from rules.letters import check_letter
+from rules.letters import MOST_ITEMS, PANEL_HEAD, check_letter, keyed_panel, panel
 from rules.log import LONGEST_RECORD, NODE, node, root
 from rules.passage_finder import find_passage, opened
 from rules.passages import (ENTRY_HEAD, MOST_RECORDS, PASSAGE_HEAD, by_letter, check_passage, closed, looked_into, passage_bytes, passage_entry,
@@ -151,6 +155,9 @@ def passage_sentences():
     yield f"No request needs more than {digests:,} digests."
     yield f"records 0 and 2 of the plain log of 7.6, {len(shown_passage()[1])} bytes:"
     yield "| 19 | the list of indexes is empty, has more than 256, or does not rise strictly |"
+    yield (f"It reads at most {PASSAGE_PANEL_MOST:,} bytes, which is {PANEL_HEAD} and one more than {MOST_RECORDS} of the longest records would take with"
+           f" {MOST_ITEMS} digests for each, {PASSAGE_HEAD} + {MOST_RECORDS} × ({ENTRY_HEAD} + {LONGEST_RECORD:,} + {NODE} × {MOST_ITEMS}).")
+    yield f"It reads at most {KEY + PASSAGE_PANEL_MOST:,} bytes, the key and as many as that of 11.3:"
 
 
 def passage_bytes_shown():
@@ -168,3 +175,18 @@ def passages_as_said():
         entries = [passage_entry(4, top, letter, place, mode) for place in range(3)]
         good &= check_passage(4, top, letter, mode) == (0, 2) and entries == [(0, 0, 22, 4), (0, 2, 38, 6), (0, 0, 0, 0)]
     return good and [check_passage(4, shown_passage()[0], letter).number for letter in (none, twice)] == [19, 19]
+
+
+def panels_as_said():
+    """Whether the programs of sections 11.3 and 11.4 write what the page says: for the passages of section 12.7, cut at every byte and with one more,
+    under keys with a bit changed; and each kind of letter by the program of the other."""
+    plain, under = (panel_input(4, *shown_passage(mode)) for mode in (PLAIN, LEAGUES[0]))
+    whole, single = KEYS[0] + under, panel_input(4, *shown_letter())
+    keyed_single = KEYS[0] + panel_input(4, *shown_letter(LEAGUES[0]))
+    cut = [passage_panel(plain[:length]) for length in range(len(plain))]
+    keyed_cut = [keyed_passage_panel(whole[:length]) for length in range(len(whole))]
+    changed = {keyed_passage_panel(with_last_bit(whole, place)) for place in range(KEY)}
+    more = [passage_panel(plain + b"\0"), keyed_passage_panel(whole + b"\0")]
+    others = [panel(plain), passage_panel(single), keyed_panel(whole), keyed_passage_panel(keyed_single)]
+    return (cut == [12] * 40 + [7] * 76 and keyed_cut == [24] * 32 + [12] * 40 + [7] * 76 and (len(plain), len(whole)) == (116, 148)
+            and (passage_panel(plain), keyed_passage_panel(whole)) == (0, 0) and changed == {9} and more == [7, 7] and others == [5, 19, 5, 19])

@@ -21,6 +21,7 @@ from expected.digest_input import expect_digest_input
 from expected.digest_run import expect_digest_run
 from expected.finder_run import expect_finder_run
 from expected.keyed_panel import expect_keyed_panel, keyed_panel_stdin
+from expected.keyed_passage_panel import expect_keyed_passage_panel, keyed_passage_panel_stdin
 from expected.letter_run import expect_letter_run
 from expected.log_run import expect_log_run
 from expected.panel import expect_panel, panel_stdin
@@ -38,6 +39,7 @@ EXPECTED = {
     "digest_run": expect_digest_run,
     "finder_run": expect_finder_run,
     "keyed_panel": expect_keyed_panel,
+    "keyed_passage_panel": expect_keyed_passage_panel,
     "letter_run": expect_letter_run,
     "log_run": expect_log_run,
     "panel": expect_panel,
@@ -52,6 +54,7 @@ STORED = {f"crates/{name}/stdout": lambda made=made: made().encode() for name, m
 STORED["crates/panel/stdin"] = panel_stdin
 STORED["crates/keyed_panel/stdin"] = keyed_panel_stdin
 STORED["crates/passage_panel/stdin"] = passage_panel_stdin
+STORED["crates/keyed_passage_panel/stdin"] = keyed_passage_panel_stdin
 STORED["crates/passage_run/stdin"] = passage_run_stdin
 
 

@@ -9,9 +9,8 @@ panel <NOTED-AND-LETTER
     keeper root LOG --bytes >NOTED; cat NOTED LETTER | panel
 panel --key FILE <NOTED-AND-LETTER
     the same for a keyed log, by its key: a file of exactly 32 bytes, else the number is 24.
-panel --passage <NOTED-AND-PASSAGE
-    the same for a passage letter, of a log without a key. Without --passage it gets 5, and with it a letter of one record gets 19.
-    A passage of a keyed log is checked by keeper check --key.
+panel [--key FILE] --passage <NOTED-AND-PASSAGE
+    the same for a passage letter. Without --passage it gets 5, and with it a letter of one record gets 19.
 panel -h, panel --version
 Exit status: 0 with a number, whatever it is; 2 where there is none, or it could not be written.
 END
@@ -29,12 +28,12 @@ keyed_input() {
     exec cat
 }
 
-# keyed_verdict FILE: the verdict by the program for keyed logs, which is 24 where the file has not 32 bytes
+# keyed_verdict NAME FILE: the verdict by that program, which reads a key first; 24 where the file has not 32 bytes
 keyed_verdict() {
-    { [ -r "$1" ] && [ ! -d "$1" ]; } || { echo "panel: cannot read the key, $1" >&2; return 2; }
+    { [ -r "$2" ] && [ ! -d "$2" ]; } || { echo "panel: cannot read the key, $2" >&2; return 2; }
     case $(command -v printf) in printf) ;; *) echo "panel: this shell has no printf of its own, and so cannot hand on a key" >&2; return 2 ;; esac
-    build keyed_panel
-    verdict=$({ keyed_input "$1" | with_program 8>&-; } 8>&1) || { echo "panel: the program could not be run" >&2; return 2; }
+    build "$1"
+    verdict=$({ keyed_input "$2" | with_program 8>&-; } 8>&1) || { echo "panel: the program could not be run" >&2; return 2; }
     case $verdict in
     '32 bytes'*) verdict=${verdict#32 bytes?} ;;
     *)
@@ -69,11 +68,8 @@ panel() {
     [ $# = 0 ] || { panel_usage >&2; return 2; }
     if [ -z "$key" ]; then
         plain_verdict "$name" || return
-    elif [ "$name" = panel ]; then
-        keyed_verdict "$key" || return
     else
-        echo "panel: no program of the panels checks a passage of a keyed log: keeper check --key FILE does" >&2
-        return 2
+        keyed_verdict "keyed_$name" "$key" || return
     fi
     case $verdict in '' | *[!0-9]*) echo "panel: no verdict" >&2; return 2 ;; esac
     # what the shell itself says of a stream that cannot be written is not for a person

@@ -33,6 +33,9 @@ class Installed(HostTest):
         given = size.to_bytes(8, "big") + said_of(RECORDS[:5], key)[1] + letter_of(RECORDS[:5], 2, key)
         ran = subprocess.run([self.folder / "panel", "--key", self.file("key", key)], input=given, capture_output=True, check=False, env=path)
         self.assertEqual((ran.returncode, ran.stdout, ran.stderr), (0, b"0\n", b""))
+        given = size.to_bytes(8, "big") + said_of(RECORDS[:5], key)[1] + passage_of(RECORDS[:5], (0, 2, 3), key)
+        ran = subprocess.run([self.folder / "panel", "--key", self.folder / "key", "--passage"], input=given, capture_output=True, check=False, env=path)
+        self.assertEqual((ran.returncode, ran.stdout, ran.stderr), (0, b"0\n", b""))
         given = size.to_bytes(8, "big") + top + passage_of(RECORDS[:5], (0, 2, 3))
         for words, number in ((("--passage",), b"0\n"), ((), b"5\n")):
             ran = subprocess.run([self.folder / "panel", *words], input=given, capture_output=True, check=False, env=path)
@@ -44,7 +47,7 @@ class Installed(HostTest):
         names = {str(path.relative_to(self.at)) for path in self.at.rglob("*") if path.is_file()}
         self.assertLessEqual({"bin/keeper", "bin/panel", "lib/libkeeper.a", "include/keeper.h", "lib/pkgconfig/keeper.pc", "share/man/man1/keeper.1",
                               "share/man/man1/panel.1", "share/man/man3/keeper.3", "share/bash-completion/completions/keeper",
-                              *(f"lib/cinchcleat/{name}" for name in ("panel", "keyed_panel", "passage_panel"))}, names)
+                              *(f"lib/cinchcleat/{name}" for name in ("panel", "keyed_panel", "passage_panel", "keyed_passage_panel"))}, names)
         self.assertNotIn(str(TOP), (self.at / "bin" / "keeper").read_bytes()[:2000].decode("latin-1"))
         self.assertIn(f"prefix={self.prefix}\n", (self.at / "lib/pkgconfig/keeper.pc").read_text())
 

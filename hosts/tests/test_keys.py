@@ -304,34 +304,35 @@ class PanelCommand(KeyTest):
         for shell in (("sh",), ("dash",), ("bash", "--posix"), ("busybox", "sh")):
             if not shutil.which(shell[0]):
                 continue
-            for words in (("--key", self.key), (f"--key={self.key}",)):
+            for words, program in ((("--key", self.key), b"keyed_panel\n"), ((f"--key={self.key}",), b"keyed_panel\n"),
+                                   (("--passage", "--key", self.key), b"keyed_passage_panel\n"), ((f"--key={self.key}", "--passage"), b"keyed_passage_panel\n")):
                 for key in (OURS, THEIRS, bytes(32), bytes(range(32)), bytes(range(224, 256)), b"\\0\\c%s%b\n\n" * 3 + b"\n\n"):
                     self.key.write_bytes(key)
                     ran, built, got = self.panel(*words, shell=shell)
                     self.assertEqual((ran.returncode, ran.stdout, ran.stderr), (0, b"0\n", b""), shell)
-                    self.assertEqual((built, got), (b"keyed_panel\n", key + b"noted and letter"), shell)
+                    self.assertEqual((built, got), (program, key + b"noted and letter"), shell)
 
     def test_without_a_key(self):
         ran, built, got = self.panel(answer="printf '9\\n'")
         self.assertEqual((ran.returncode, ran.stdout, ran.stderr, built, got), (0, b"9\n", b"", b"panel\n", b"noted and letter"))
 
     def test_passage(self):
-        """Another program reads the same; and with a key it is refused in words, before the key is read or anything is built."""
+        """Another program reads the same; with a key that cannot be read nothing is built."""
         for shell in (("sh",), ("dash",), ("bash", "--posix"), ("busybox", "sh")):
             if shutil.which(shell[0]):
                 ran, built, got = self.panel("--passage", answer="printf '19\n'", shell=shell)
                 self.assertEqual((ran.returncode, ran.stdout, ran.stderr), (0, b"19\n", b""), shell)
                 self.assertEqual((built, got), (b"passage_panel\n", b"noted and letter"), shell)
-        for key in (self.key, self.folder / "missing"):
-            for words in (("--passage", "--key", key), ("--key", key, "--passage"), ("--passage", f"--key={key}"), (f"--key={key}", "--passage")):
-                ran, built, got = self.panel(*words)
-                self.assertEqual((ran.returncode, ran.stdout, built, got), (2, b"", None, None), words)
-                self.assertIn(b"keeper check --key FILE does", ran.stderr)
+        key = self.folder / "missing"
+        for words in (("--passage", "--key", key), ("--key", key, "--passage"), ("--passage", f"--key={key}"), (f"--key={key}", "--passage")):
+            ran, built, got = self.panel(*words)
+            self.assertEqual((ran.returncode, ran.stdout, built, got), (2, b"", None, None), words)
+            self.assertIn(b"panel: cannot read the key", ran.stderr)
         for words in (("--passage", "--passage"), ("--passage", "more"), ("more", "--passage"), ("--passage=",), ("--passage", "--key"),
                       ("--passage", "--key", self.key, "more")):
             ran, built, _ = self.panel(*words)
             self.assertEqual((ran.returncode, ran.stdout, built), (2, b"", None), words)
-            self.assertIn(b"panel --passage", ran.stderr)
+            self.assertIn(b"panel [--key FILE] --passage", ran.stderr)
         for answer in ("true", "echo no number", "return 1"):
             ran, _, _ = self.panel("--passage", answer=answer)
             self.assertEqual((ran.returncode, ran.stdout), (2, b""), answer)
@@ -339,9 +340,10 @@ class PanelCommand(KeyTest):
     def test_lengths(self):
         """24 in words and as the number, whatever the program would say; and it gets no byte of the key."""
         for length in LENGTHS:
-            ran, _, got = self.panel("--key", self.file("key", (OURS * 2)[:length]))
-            self.assertEqual((ran.returncode, ran.stdout, got), (0, b"24\n", b""), length)
-            self.assertIn(b"key refused, number 24: the key is not of 32 bytes", ran.stderr)
+            for words in ((), ("--passage",)):
+                ran, _, got = self.panel("--key", self.file("key", (OURS * 2)[:length]), *words)
+                self.assertEqual((ran.returncode, ran.stdout, got), (0, b"24\n", b""), length)
+                self.assertIn(b"key refused, number 24: the key is not of 32 bytes", ran.stderr)
 
     def test_fifo(self):
         pipe = self.folder / "pipe"

@@ -69,6 +69,11 @@ class Scripts(HostTest):
                                       ((), passage, b"5\n")):
             ran = self.run_script(self.folder / "panel", *words, given=noted_and(letter, RECORDS[:5]))
             self.assertEqual((ran.returncode, ran.stdout, ran.stderr), (0, number, b""))
+        given = noted_and(passage_of(RECORDS[:5], (0, 3), bytes(range(32))), RECORDS[:5], bytes(range(32)))
+        for words, number in ((("--passage", "--key", key), b"0\n"), (("--key", self.file("other", bytes(32)), "--passage"), b"9\n"),
+                              (("--passage",), b"9\n"), (("--key", key), b"5\n")):
+            ran = self.run_script(self.folder / "panel", *words, given=given)
+            self.assertEqual((ran.returncode, ran.stdout, ran.stderr), (0, number, b""))
         self.holds(RECORDS[3:4], self.folder / "log")
         self.assertEqual(sorted((str(path), path.lstat().st_mtime_ns) for path in self.copy.rglob("*")), before)
 
@@ -165,9 +170,6 @@ class Scripts(HostTest):
             self.assertIn(word, ran.stdout)
         self.assertRegex(self.run_script(self.copy / "bin" / "panel", "--version").stdout, rb"^panel \(Cinchcleat\) \d")
         self.assertEqual(self.run_script(self.copy / "bin" / "panel", "more").returncode, 2)
-        ran = self.run_script(self.copy / "bin" / "panel", "--passage", "--key", self.file("key", bytes(32)))
-        self.assertEqual((ran.returncode, ran.stdout), (2, b""))
-        self.assertIn(b"keeper check --key FILE does", ran.stderr)
 
     def test_edited_while_it_is_built(self):
         """A source that is edited while a build runs is built again by the next command, and then no more: a stand-in for rt edits it and counts."""

@@ -18,10 +18,10 @@ def passage_panel(data, mode=PLAIN):
     return check_passage(int.from_bytes(given[:8], "big"), given[8:PANEL_HEAD], given[PANEL_HEAD:], mode).number
 
 
-def passage_panel_stdin():
+def passage_panel_stdin(mode=PLAIN):
     """Its stored input: three records of a log of fifteen."""
-    (size, nodes), indexes = log_of(15), (3, 8, 12)
-    return panel_input(size, root(size, nodes).root, passage_of(size, indexes, [record_of(index) for index in indexes], nodes))
+    (size, nodes), indexes = log_of(15, mode), (3, 8, 12)
+    return panel_input(size, root(size, nodes, mode).root, passage_of(size, indexes, [record_of(index) for index in indexes], nodes, mode))
 
 
 def expect_passage_panel():

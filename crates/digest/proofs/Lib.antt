@@ -1,3 +1,4 @@
 -- What follows from the promise.
 pub mod Keys
+pub mod UnderKey
 pub mod Only

@@ -1,15 +1,14 @@
 -- The panel's programs read at most 17,469 bytes, and a key before them, since a longer letter gets the same number.
-use mathlib.Core.Path.{_≡_, refl, sym, ap, ap₂, _∙_}
+use mathlib.Core.Path.{_≡_, refl, sym, ap, _∙_}
 use mathlib.Core.Logic.{by-cases}
 use mathlib.Core.List.{List, _∷_, _++_}
-use Prim.Native.Nat.{ℕ, _+_, _*_, _^_, _≤_, _<_}
+use Prim.Native.Nat.{ℕ, _+_, _*_, _^_, _≤_}
 use native.Mathlib.Decide.{decLt}
 use native.Mathlib.Omega.{arith}
-use borrow.Author.Tests.{lt-ltb, le-ltb}
+use borrow.Author.Tests.{le-ltb}
 use lib.ListN.{length, take, drop, length-drop}
-use lib.Seq.{length-take-le, take-all, take-add, take-at, drop-at}
-use Rattle.digest.specs.Digest.{digestIn}
-use Rattle.digest.specs.Modes.{keyedMode}
+use lib.Seq.{length-take-le, take-all, take-add, drop-at}
+use Rattle.digest.proofs.UnderKey.{under-front}
 use Rattle.order.specs.Order.{Refusal, _if_, _is-not_, firstNumber}
 use Rattle.order.proofs.Laws.{first-is, first-next, first-both, number-is}
 use Rattle.wire.specs.Numbers.{number}
@@ -93,27 +92,6 @@ module _ (digest : List ℕ → List ℕ) where
       (front-number (number (part 0 8 input)) (part 8 32 input) (drop 40 input) n))
       (λ h. ap (judged digest) (take-all 17469 input (omega arith)))
 
--- the number under the key that is there
-pub keyed-judged : (input : List ℕ) → 32 ≤ length input → judgedKeyed input ≡ judged (digestIn (keyedMode (take 32 input))) (drop 32 input)
-unfolding judgedKeyed
-keyed-judged input h = rw (le-ltb (length input) 32 h, judgedKeyed)
-
-pub keyed-short : (input : List ℕ) → length input < 32 → judgedKeyed input ≡ 24
-unfolding judgedKeyed
-keyed-short input h = rw (lt-ltb (length input) 32 h, judgedKeyed)
-
 -- with a key before it, at most 17,501
 pub front-keyed : (input : List ℕ) → judgedKeyed (take 17501 input) ≡ judgedKeyed input
-front-keyed input =
-    by-cases (decLt 17501 (length input))
-    (λ h.
-    let k : length (take 17501 input) ≡ 17501 = length-take-le 17501 input (omega arith) in
-    let t : take 17501 input ≡ take 32 input ++ take 17469 (drop 32 input) = take-add 32 17469 input in
-    let n : length (take 32 input) ≡ 32 = length-take-le 32 input (omega arith) in
-    let a : take 32 (take 17501 input) ≡ take 32 input = ap (take 32) t ∙ take-at (take 32 input) _ 32 n in
-    let d : drop 32 (take 17501 input) ≡ take 17469 (drop 32 input) = ap (drop 32) t ∙ drop-at (take 32 input) _ 32 n in
-    keyed-judged (take 17501 input) (omega arith)
-    ∙ ap₂ (λ (x y : List ℕ). judged (digestIn (keyedMode x)) y) a d
-    ∙ front-judged (digestIn (keyedMode (take 32 input))) (drop 32 input)
-    ∙ sym (keyed-judged input (omega arith)))
-    (λ h. ap judgedKeyed (take-all 17501 input (omega arith)))
+front-keyed input = under-front judged 17469 front-judged input

@@ -4,13 +4,12 @@ use mathlib.Core.List.{List, _∷_}
 use Prim.Native.Nat.{ℕ}
 use denote.Ref.{RefT, now}
 use lib.Dec.{ltb}
-use lib.ListN.{length, take, drop}
+use lib.ListN.{length, drop}
 use Rattle.order.specs.Order.{Refusal, _if_, _is_, _is-not_, verdict}
 use Rattle.wire.specs.Numbers.{number}
 use Rattle.wire.specs.Slices.{part}
 use Rattle.wire.specs.Lent.{Part, partOf}
-use Rattle.digest.specs.Digest.{digestIn}
-use Rattle.digest.specs.Modes.{keyedMode}
+use Rattle.digest.specs.UnderKey.{underKey}
 use Rattle.shape.specs.Sizes.{countAnswer, leaves}
 use Rattle.letter.specs.Bytes.{head, indexIn, statedIn}
 use Rattle.letter.specs.Checking.{from7}
@@ -59,5 +58,5 @@ module _ (digest : List ℕ → List ℕ) where
       [ true ↦ 12 | false ↦ checkOutcome (number (part 0 8 input)) (part 8 32 input) (drop 40 input) .number ]
 
 -- a key (32 bytes), and then the same under it: the verdict number; 24 for input under 32 bytes
-unfoldable pub judgedKeyed : List ℕ → ℕ
-judgedKeyed input = elim (ltb (length input) 32) [ true ↦ 24 | false ↦ judged (digestIn (keyedMode (take 32 input))) (drop 32 input) ]
+abbrev pub judgedKeyed : List ℕ → ℕ
+judgedKeyed input = underKey judged input

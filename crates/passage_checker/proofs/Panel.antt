@@ -1,4 +1,4 @@
--- A panel's program reads at most 4,459,571 bytes, since a longer letter gets the same number.
+-- The panel's programs read at most 4,459,571 bytes, and a key before them, since a longer letter gets the same number.
 use mathlib.Core.Logic.{_≢_, by-cases}
 use mathlib.Core.Path.{_≡_, refl, sym, ap, _∙_}
 use mathlib.Core.List.{List, [], _∷_, _++_}
@@ -13,6 +13,7 @@ use Rattle.order.proofs.Laws.{clear, first-early, late, first-is, first-next, f
 use Rattle.wire.specs.Numbers.{number}
 use Rattle.wire.specs.Slices.{part}
 use Rattle.wire.proofs.Parts.{part-take}
+use Rattle.digest.proofs.UnderKey.{under-front}
 use Rattle.shape.specs.Sizes.{leaves}
 use Rattle.letter.specs.Bytes.{sizeIn}
 use Rattle.passage.specs.Bytes.{countIn, indexAt, statedAt, behindAt, endIn, indexesIn}
@@ -21,7 +22,7 @@ use Rattle.passage.proofs.Digests.{count-few}
 use Rattle.passage_fields.proofs.Places.{exact-end}
 use Rattle.passage_fields.proofs.Numbered.{entries-numbered}
 use Rattle.passage_fields.proofs.Entries.{entries-near}
-use Rattle.passage_checker.specs.Outcome.{CheckOutcome, checkRefused, checkDone, checkOrder, checkOutcome, judged}
+use Rattle.passage_checker.specs.Outcome.{CheckOutcome, checkRefused, checkDone, checkOrder, checkOutcome, judged, judgedKeyed}
 
 -- the front of a letter has its fields
 module _ (k : ℕ) (l : List ℕ) (q : k ≤ length l) where
@@ -152,3 +153,7 @@ module _ (digest : List ℕ → List ℕ) where
       )
       (front-number (number (part 0 8 input)) (part 8 32 input) (drop 40 input) n))
       (λ h. ap (judged digest) (take-all 4459571 input (omega arith)))
+
+-- with a key before it, at most 4,459,603
+pub front-keyed : (input : List ℕ) → judgedKeyed (take 4459603 input) ≡ judgedKeyed input
+front-keyed input = under-front judged 4459571 front-judged input

@@ -1,4 +1,5 @@
--- What checking a passage letter returns, for every input and any digest function; the calls beside it that hand back its records.
+-- What checking a passage letter returns, for every input and any digest function; the calls beside it that hand back its records; what the panel's
+-- programs print.
 use mathlib.Core.Bool.{true, false}
 use mathlib.Core.List.{List, [], _∷_, _++_}
 use Prim.Native.Nat.{ℕ}
@@ -9,6 +10,7 @@ use Rattle.order.specs.Order.{Refusal, _if_, _is_, _is-not_, _under_, verdict}
 use Rattle.wire.specs.Numbers.{number}
 use Rattle.wire.specs.Slices.{part, splice}
 use Rattle.wire.specs.Lent.{Part, partOf}
+use Rattle.digest.specs.UnderKey.{underKey}
 use Rattle.shape.specs.Sizes.{countAnswer, leaves}
 use Rattle.passage.specs.Bytes.{countIn, indexesIn, startsIn, lengthsIn}
 use Rattle.passage.specs.Checking.{from7}
@@ -122,3 +124,7 @@ module _ (digest : List ℕ → List ℕ) where
   judged input =
       elim (ltb (length input) 40)
       [ true ↦ 12 | false ↦ checkOutcome (number (part 0 8 input)) (part 8 32 input) (drop 40 input) .number ]
+
+-- a key (32 bytes), and then the same under it: the verdict number; 24 for input under 32 bytes
+abbrev pub judgedKeyed : List ℕ → ℕ
+judgedKeyed input = underKey judged input

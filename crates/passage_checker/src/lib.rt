@@ -5,7 +5,7 @@ ghost use Rattle.digest.specs.Digest.{digestIn};
 ghost use Rattle.wire.specs.Lent.{lent};
 ghost use Rattle.passage_fields.specs.Fields.{takenApart, fieldsRefused};
 ghost use Rattle.passage_checker.specs.Outcome.{checked, checkRefused, checkOutcome, handed, entryOutcome, recordPart};
-ghost use Rattle.passage_checker.specs.Outcome.{listed, entriesOutcome, judged};
+ghost use Rattle.passage_checker.specs.Outcome.{listed, entriesOutcome, judged, judgedKeyed};
 ghost use Rattle.passage_checker.specs.Steps.{passOutcome, Listable, Listed};
 use passage_fields::Fields;
 use passage_fields::stated_at;
@@ -194,4 +194,16 @@ pub fn judge(mode: &[u8; 36], input: &[u8]) -> u32
     let size = wire::read8(input, 0);
     let c = check(mode, size, &input[8..40], &input[40..]);
     c.number
+}
+
+// The verdict number for a key, and then trusted size, root and one letter in a row. 24 for under 32 bytes.
+pub fn judge_keyed(input: &[u8]) -> u32
+    ensures { λ r. ⌜ r ≡ judgedKeyed (now (input .entry)) ⌝ }
+{
+    if input.len() < 32 {
+        return 24;
+    }
+    let k = digest::keyed(&input[..32]);
+    let mode = k.mode;
+    judge(&mode, &input[32..])
 }

@@ -31,7 +31,7 @@ fn answer(input: &mut [u8]) {
     io::write_all(STDOUT_FILENO, b"\n");
 }
 
-// The one buffer, which is lent and never copied: the longest letter, with size and root before it, and a byte more.
+// The one buffer, which is lent and never copied: more than the longest letter, with size and root before it.
 fn main() {
     let mut input = [0u8; 4459571];
     answer(&mut input);
