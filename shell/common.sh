@@ -46,16 +46,17 @@ demand_cc() {
     [ -z "${CC-}" ] || command -v "${CC%% *}" >/dev/null 2>&1 || die "CC is ${CC%% *}, and there is no such command"
 }
 
-# rt_library CRATE: proves the crate where that is not done, and writes its archive
-rt_library() {
+# rt_libraries CRATE..: proves the crates where that is not done, and writes their archives, as many at a time as there are processors
+rt_libraries() {
     say "proving and building the library $1, which takes some minutes the first time"
-    (cd "$top" && rt staticlib "$1") >"$work/rt.log" 2>&1 </dev/null || { cat "$work/rt.log" >&2; die "$1 was not built"; }
+    # shellcheck disable=SC2016
+    (cd "$top" && rt check "$@" && printf '%s\n' "$@" | xargs -P "$(nproc)" -I CRATE sh -c 'rt staticlib "$0" >"$1/$0.log" 2>&1 || { cat "$1/$0.log"; exit 1; }' CRATE "$work") \
+        >"$work/rt.log" 2>&1 </dev/null || { cat "$work/rt.log" >&2; die "$1 was not built"; }
 }
 
 # join_library CRATE: puts the object of that crate into the archive too. An archive exports the calls of its own crate alone, and what its object has
 # beside them is seen by no other, so that several objects lie in one archive.
 join_library() {
-    rt_library "$1"
     (cd "$work" && "$tools/bin/llvm-ar" x "$top/target/staticlib/lib$1.a" "$1.o" && "$tools/bin/llvm-ar" rs "$archive" "$1.o") || die "$1 was not joined"
 }
 
@@ -67,8 +68,13 @@ static_library() {
     archive=$top/target/staticlib/lib$1.a
     ! is_built "target/staticlib/lib$1.a" crates crates.txt -name must-fail -prune -o || return 0
     library_sum=$(sum_of crates crates.txt -name must-fail -prune -o)
-    rt_library "$1"
-    [ "$1" != keeper ] || for part in $library_parts; do join_library "$part"; done
+    if [ "$1" = keeper ]; then
+        # shellcheck disable=SC2086
+        rt_libraries keeper $library_parts
+        for part in $library_parts; do join_library "$part"; done
+    else
+        rt_libraries "$1"
+    fi
     was_built "target/staticlib/lib$1.a" "$library_sum"
 }
 
