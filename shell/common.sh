@@ -49,9 +49,8 @@ demand_cc() {
 # rt_libraries CRATE..: proves the crates where that is not done, and writes their archives, as many at a time as there are processors
 rt_libraries() {
     say "proving and building the library $1, which takes some minutes the first time"
-    # shellcheck disable=SC2016
-    (cd "$top" && rt check "$@" && printf '%s\n' "$@" | xargs -P "$(nproc)" -I CRATE sh -c 'rt staticlib "$0" >"$1/$0.log" 2>&1 || { cat "$1/$0.log"; exit 1; }' CRATE "$work") \
-        >"$work/rt.log" 2>&1 </dev/null || { cat "$work/rt.log" >&2; die "$1 was not built"; }
+    (cd "$top" && rt check "$@" && printf '%s\n' "$@" | xargs -P "$(nproc)" -n 1 rt staticlib) >"$work/rt.log" 2>&1 </dev/null ||
+        { cat "$work/rt.log" >&2; die "$1 was not built"; }
 }
 
 # join_library CRATE: puts the object of that crate into the archive too. An archive exports the calls of its own crate alone, and what its object has

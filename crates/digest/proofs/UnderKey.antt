@@ -34,7 +34,7 @@ module _ (judged : (List ℕ → List ℕ) → List ℕ → ℕ) where
       ∙ ap₂ (λ (m x : List ℕ). judged (digestIn m) x) (ap (λ (a : Moded). a .mode) (e ∙ key-taken (take 32 input) n)) (rest-all 32 input)
       ∙ sym (under-taken input h)
 
-  -- where the first k bytes are enough to be judged, they are behind a key too
+  -- where the first k bytes are enough to be judged, 32 more are enough with a key before them
   pub under-front : (k : ℕ) → ((digest : List ℕ → List ℕ) (input : List ℕ) → judged digest (take k input) ≡ judged digest input)
       → (input : List ℕ) → underKey judged (take (32 + k) input) ≡ underKey judged input
   under-front k enough input =
