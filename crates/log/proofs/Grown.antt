@@ -22,7 +22,7 @@ use Rattle.nodes.specs.Nodes.{nodeIn, nodesOf, Begins}
 use Rattle.log.specs.Outcome.{appendOrder, appendDone, appendOver, putNodes, appendOutcome, rootOrder, rootDone, rootOver, rootOutcome}
 use Rattle.wire.proofs.Joined.{joined-length, joined-append}
 use Rattle.nodes.proofs.Joined.{node-joined}
-use Rattle.log.proofs.Climbs.{new-sized}
+use Rattle.new_nodes.proofs.Climbs.{new-sized}
 use Rattle.shape.proofs.Counting.{Counts, counts-size}
 
 module _ (digest : List ℕ → List ℕ) (digest-32 : (x : List ℕ) → length (digest x) ≡ 32) where

@@ -1,6 +1,4 @@
 -- Laws of the log.
-mod Climbs
-mod Writing
 mod Done
 pub mod Only
 pub mod Told

@@ -22,7 +22,7 @@ use Rattle.nodes.specs.Nodes.{nodeIn}
 use Rattle.nodes.proofs.Local.{node-local, short-local}
 use Rattle.log.specs.Outcome.{AppendOutcome, appendRefused, appendOrder, appendDone, appendOutcome}
 use Rattle.log.specs.Outcome.{rootRefused, rootOrder, rootDone, rootOver, rootOutcome}
-use Rattle.log.proofs.Climbs.{new-sized}
+use Rattle.new_nodes.proofs.Climbs.{new-sized}
 use Rattle.log.proofs.Told.{told-number, told-refused, told-done}
 
 -- ---- append

@@ -3,9 +3,6 @@ ghost use mathlib.Core.Path.{_≡_};
 ghost use Rattle.digest.specs.Digest.{digestIn};
 ghost use Rattle.log.specs.Outcome.{appended, appendOutcome, rooted, rootOutcome};
 ghost use Rattle.log.specs.Steps.{refusedAppend, refusedRoot};
-
-mod new;
-
 use digest::Digest;
 use shape::Counted;
 
@@ -47,27 +44,13 @@ pub fn append(mode: &[u8; 36], size: u64, rec: &[u8], nodes: &mut [u8]) -> Appen
     if wire::LONGEST_RECORD < rec.len() {
         return append_refused(3, size);
     }
-    let m = shape::merges(n);
-    let hashes = 1 + m as u64;
-    let grown = size + hashes;
-    if (nodes.len() as u64) < 32 * grown {
+    let hashes = new_nodes::put_new(mode, size, shape::merges(n), rec, nodes);
+    if hashes == 0 {
         return append_refused(4, size);
     }
-    let at = (32 * size) as usize;
-    if m == 0 {
-        let leaf = digest::digest_of(mode, rec).bytes;
-        wire::write_digest(nodes, at, leaf);
-        return Appended {
-            number: 0,
-            size: grown,
-            hashes: 1,
-        };
-    }
-    let lefts = new::lefts(nodes, size, m);
-    new::write_new(mode, &mut nodes[at..], rec, lefts, m);
     Appended {
         number: 0,
-        size: grown,
+        size: size + hashes,
         hashes,
     }
 }

@@ -6,8 +6,9 @@ use Prim.Native.Nat.{ℕ}
 use Rattle.digest.specs.Digest.{digestIn}
 use Rattle.kept.proofs.Kept.{kept-done, kept-left}
 use Rattle.passage_checker.specs.declared.Checked.{Checked}
-use Rattle.passage_checker.specs.declared.Handed.{Handed}
-use Rattle.passage_checker.specs.Outcome.{CheckOutcome, checked, checkOutcome, EntryOutcome, handed, entryOutcome, EntriesOutcome, listed, entriesOutcome}
+use Rattle.passage_records.specs.declared.Handed.{Handed}
+use Rattle.passage_checker.specs.Outcome.{CheckOutcome, checked, checkOutcome}
+use Rattle.passage_records.specs.Outcome.{EntryOutcome, handed, entryOutcome, EntriesOutcome, listed, entriesOutcome}
 use Rattle.passage_c.specs.Calls.{checkLeft, checkCall, entryLeft, entryCall, entriesLeft, entriesCall}
 
 module _ (mode : List ℕ) (size : ℕ) (root letter : List ℕ) where

@@ -2,7 +2,8 @@
 use mathlib.Core.Path.{_≡_, sym, _∙_}
 use mathlib.Core.List.{List}
 use Prim.Native.Nat.{ℕ}
-use Rattle.passage_checker.specs.Outcome.{CheckOutcome, EntryOutcome, EntriesOutcome}
+use Rattle.passage_checker.specs.Outcome.{CheckOutcome}
+use Rattle.passage_records.specs.Outcome.{EntryOutcome, EntriesOutcome}
 use Rattle.passage_c.specs.Calls.{checkLeft, entryLeft, entriesLeft, FindLeft, findLeft}
 
 -- a letter checked: the number, and the result variable

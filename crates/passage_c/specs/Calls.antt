@@ -7,7 +7,8 @@ use Rattle.wire.specs.Writers.{WriteOutcome}
 use Rattle.difference.specs.Outcome.{findingNumber}
 use Rattle.kept.specs.Kept.{orKept, writeCall}
 use Rattle.passage_writer.specs.Outcome.{writeOutcome}
-use Rattle.passage_checker.specs.Outcome.{CheckOutcome, checkOutcome, EntryOutcome, entryOutcome, EntriesOutcome, entriesOutcome}
+use Rattle.passage_checker.specs.Outcome.{CheckOutcome, checkOutcome}
+use Rattle.passage_records.specs.Outcome.{EntryOutcome, entryOutcome, EntriesOutcome, entriesOutcome}
 use Rattle.passage_finder.specs.Outcome.{findOutcome}
 
 -- ---- Written

@@ -64,7 +64,7 @@ pub extern "C" fn keeper_passage_entry(
         ≡ entryCall (now (mode .entry)) size (now (root .entry)) (now (letter .entry)) k
         (now (index .entry)) (now («record_at» .entry)) (now («record_len» .entry)) ⌝ }
 {
-    let e = passage_checker::entry(mode, size, root, letter, k);
+    let e = passage_records::entry(mode, size, root, letter, k);
     if e.number != 0 {
         return e.number;
     }
@@ -90,7 +90,7 @@ pub extern "C" fn keeper_passage_entries(
         ≡ entriesCall (now (mode .entry)) size (now (root .entry)) (now (letter .entry))
         (now (indexes .entry)) (now (starts .entry)) (now (lengths .entry)) (now (count .entry)) ⌝ }
 {
-    let c = passage_checker::entries(mode, size, root, letter, indexes, starts, lengths);
+    let c = passage_records::entries(mode, size, root, letter, indexes, starts, lengths);
     if c.number != 0 {
         return c.number;
     }

@@ -1,8 +1,5 @@
--- One pass over a letter, what each call hands back of it, and that each statement leaves one answer.
-mod Passing
-mod Worked
-mod Handing
-mod Listing
-mod Rooms
+-- One pass over a letter, what it tells, and that the statement leaves one answer.
+pub mod Passing
+pub mod Worked
 pub mod Only
 pub mod Panel

@@ -7,7 +7,8 @@ use native.Mathlib.Omega.{arith}
 use lib.Dec.{T}
 use lib.ListN.{length}
 use Rattle.order.specs.Order.{_if_, _is_, _is-not_, verdict, firstNumber}
-use Rattle.order.proofs.Laws.{Passes, numbered, numbered-append, number-is, accepted, refusal, refused-by, passes, refuses, pass-parts, early, late}
+use Rattle.order.proofs.Laws.{Passes, numbered, numbered-append, number-is, verdict-map, accepted, refusal, refused-by}
+use Rattle.order.proofs.Laws.{passes, refuses, pass-parts, early, late}
 use Rattle.wire.specs.Slices.{differ}
 use Rattle.shape.specs.Sizes.{countAnswer, leaves}
 use Rattle.passage.specs.Digests.{workedRoot}
@@ -16,8 +17,7 @@ use Rattle.passage_fields.specs.declared.Fields.{Fields}
 use Rattle.passage_fields.specs.Fields.{FieldsOutcome, takenApart, fieldsRefused, fieldsDone, fieldsOutcome}
 use Rattle.passage_fields.proofs.Numbered.{fields-numbered}
 use Rattle.passage_fields.proofs.Apart.{apart-number}
-use Rattle.passage_checker.specs.Outcome.{checkOrder}
-use Rattle.passage_checker.specs.Steps.{passOutcome}
+use Rattle.passage_checker.specs.Outcome.{CheckOutcome, checkOrder, passOutcome, checkOutcome}
 
 module _ (digest : List ℕ → List ℕ) (size : ℕ) (root letter : List ℕ) where
   -- every number is above 0
@@ -82,6 +82,13 @@ module _ (digest : List ℕ → List ℕ) (size : ℕ) (root letter : List ℕ) 
     unfolding passOutcome
     pass-number =
         number-is (λ (o : FieldsOutcome). o .number) fieldsRefused (checkOrder digest size root letter) (fieldsDone letter) (λ k. refl) refl e
+
+    -- the check answers its number, and how many records there are
+    pub check-handed : record { number = r .number; count = r .count } ≡ checkOutcome digest size root letter
+    unfolding passOutcome checkOutcome
+    check-handed =
+        let count : FieldsOutcome → CheckOutcome = λ o. record { number = o .number; count = o .count } in
+        ap count e ∙ verdict-map count fieldsRefused (checkOrder digest size root letter) (fieldsDone letter)
 
     -- a refusal has no records
     pub pass-none : r .number ≢ 0 → r .count ≡ 0

@@ -1,3 +1,2 @@
--- What checking a passage letter returns, and what the code's own steps are called.
+-- What checking a passage letter returns.
 pub mod Outcome
-pub mod Steps

@@ -15,8 +15,8 @@ use Rattle.passage.specs.Checking.{fieldsOrder, from7}
 use Rattle.passage_fields.proofs.Numbered.{fields-numbered}
 use Rattle.passage_fields.proofs.Places.{indexes-count}
 use Rattle.passage_fields.proofs.Fits.{Fits, pass-fits, fits-request, fits-stated, fits-part}
-use Rattle.passage_checker.specs.Outcome.{CheckOutcome, checkRefused, checkDone, entryRefused, entryDone, listRefused, listDone}
-use Rattle.passage_checker.specs.Outcome.{roomOrder, checkOrder, checkOutcome, entryOutcome, entriesOutcome}
+use Rattle.passage_checker.specs.Outcome.{CheckOutcome, checkRefused, checkDone, checkOrder, checkOutcome}
+use Rattle.passage_records.specs.Outcome.{entryRefused, entryDone, entryOutcome, listRefused, listDone, roomOrder, entriesOutcome}
 use Rattle.passage_promise.specs.Terms.{Accepted}
 use Rattle.passage_promise.proofs.Read.{record-each, start-each}
 

@@ -29,7 +29,8 @@ use Rattle.passage.specs.Bytes.{passageBytes, digestsIn}
 use Rattle.passage.specs.Request.{Request}
 use Rattle.passage.specs.Digests.{digestCount, letterTree, workedRoot}
 use Rattle.passage.proofs.Digests.{count-is}
-use Rattle.passage_checker.specs.Outcome.{CheckOutcome, EntryOutcome}
+use Rattle.passage_checker.specs.Outcome.{CheckOutcome}
+use Rattle.passage_records.specs.Outcome.{EntryOutcome}
 use Rattle.passage_fields.proofs.Entries.{AtMost}
 use Rattle.passage_fields.proofs.Fits.{pass-fits, fits-short, fits-stated}
 use Rattle.passage_fields.proofs.Reading.{Parts, indexes-read, records-read, digests-read, fields-pass}

@@ -9,7 +9,8 @@ use Rattle.wire.specs.Slices.{part, splice}
 use Rattle.shape.specs.Tree.{Tree, OnePlace}
 use Rattle.shape.specs.Difference.{Collision}
 use Rattle.letter_promise.specs.Terms.{recordAt}
-use Rattle.passage_checker.specs.Outcome.{checkOutcome, entryOutcome, entriesOutcome}
+use Rattle.passage_checker.specs.Outcome.{checkOutcome}
+use Rattle.passage_records.specs.Outcome.{entryOutcome, entriesOutcome}
 use Rattle.difference.specs.declared.Finding.the-variants.{Same, Records, Pair}
 use Rattle.findings.specs.Outcome.{NamedOutcome}
 

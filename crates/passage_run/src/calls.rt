@@ -61,11 +61,11 @@ fn show_check(mode: &[u8; 36], size: u64, root: &[u8], letter: &[u8]) {
 
 // Record k: the number, its index and place; its length and first bytes as it is handed out.
 fn show_entry(mode: &[u8; 36], size: u64, root: &[u8], letter: &[u8], k: u64) {
-    let e = passage_checker::entry(mode, size, root, letter, k);
+    let e = passage_records::entry(mode, size, root, letter, k);
     say_two(b" entry ", e.number, e.index);
     word(e.start as u64);
     word(e.length as u64);
-    let rec = passage_checker::record_in(mode, size, root, letter, k);
+    let rec = passage_records::record_in(mode, size, root, letter, k);
     word(rec.len() as u64);
     word(wire::read8(rec, 0));
 }
@@ -81,7 +81,7 @@ fn show_entries(mode: &[u8; 36], size: u64, root: &[u8], letter: &[u8], places: 
     let mut starts = [9u64; 257];
     let mut lengths = [9u64; 257];
     let room = at_most(places, 257);
-    let c = passage_checker::entries(
+    let c = passage_records::entries(
         mode,
         size,
         root,

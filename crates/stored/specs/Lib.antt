@@ -1,3 +1,2 @@
--- Stored nodes: their bytes, and what reading one returns.
-pub mod Nodes
+-- Stored nodes: what reading one returns.
 pub mod Read

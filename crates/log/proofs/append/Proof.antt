@@ -1,15 +1,16 @@
 -- Each refusal is the first of its order that applies, and where none does the new nodes stand behind the old ones.
-use mathlib.Core.Path.{_≡_, refl, ap, _∙_}
-use Prim.Native.Nat.{suc, _+_, _-_, _*_, _^_, _≤_}
+use mathlib.Core.Path.{_≡_, refl, ap, ap₂}
+use Prim.Native.Nat.{ℕ, suc, _+_, _-_, _*_, _^_, _≤_}
 use native.Mathlib.Omega.{arith}
-use lib.ListN.{length, drop, length-drop}
-use lib.Seq.{length-take-le}
+use lib.ListN.{length}
 use Rattle.order.proofs.Laws.{refuses, passes}
+use Rattle.digest.specs.Digest.{digestIn}
 use Rattle.shape.specs.Sizes.{sizeOf, leaves}
+use Rattle.shape.proofs.Counting.{Counts, counts-leaves, counts-none, grown-size, merges-few, lefts-room}
+use Rattle.new_nodes.proofs.Told.{put-none, put-some}
 use Rattle.log.specs.Outcome.{appended, appendOrder, appendOver, appendOutcome}
 use Rattle.log.specs.declared.Appended.{Appended}
-use Rattle.shape.proofs.Counting.{Counts, counts-leaves, counts-none, grown-size, merges-few, lefts-room}
-use Rattle.log.proofs.Done.{leaf-bytes, new-bytes, new-fits, append-done}
+use Rattle.log.proofs.Done.{append-done}
 use borrow.Author.Needs.{needs}
 use Rattle.log.proofs.append.Statement.{statement}
 use Rattle.log.proofs.append.Tie as tie
@@ -39,92 +40,62 @@ returns-3 c =
     let k = known (c .before .before .before) in
     refuses 3 _ _ _ (ap (λ (r : Appended). appended r (a .nodes .now)) (c .append-refused3 .ensures)) (search needs)
 
+-- what the count of nodes put tells: the place is one of the log
+module _ (c : tie.After-put-new) where
+  abbrev start : tie.Start
+  start = c .before .before .before .before .before .before .before .before .before .before .before
+
+  counted : Counts (start .args .size) (c .before .before .before .before .before .before .c .given .0 .0)
+  counted = known (c .before .before .before .before .before)
+
+  abbrev merged : ℕ
+  merged = c .before .before .merges .result
+
+  rooms : (merged ≤ 32) × (start .args .size ≤ 2 ^ 34) × (2 ^ merged ≤ start .args .size + 1)
+  rooms =
+      let r = lefts-room counted (c .before .before .merges .ensures) in
+      let few = merges-few counted (c .before .before .merges .ensures) (omega (arith, counted .most, c .before .before .before .before .if1 .left)) in
+      (few, r .0, r .1)
+
+  grown : sizeOf (suc (leaves (start .args .size))) ≡ start .args .size + (1 + merged)
+  grown = grown-size counted (c .before .before .merges .ensures)
+
 returns-4 : tie.Need-returns-4
 unfolding appendOutcome appendOver appendOrder
 returns-4 c =
-    let a = c .before .before .before .before .before .before .before .before .before .before .before .args in
-    let k = known (c .before .before .before .before .before) in
-    let g : sizeOf (suc (leaves (a .size))) ≡ a .size + (1 + c .before .before .merges .result) = grown-size k (c .before .before .merges .ensures) in
-    refuses 4 _ _ _ (ap (λ (r : Appended). appended r (a .nodes .now)) (c .append-refused4 .ensures)) (search needs)
+    let p = c .before .before .before .before in
+    let a = start p .args in
+    let k = counted p in
+    let g = grown p in
+    let r = rooms p in
+    let n = put-none (digestIn (a .mode .now)) (a .size) (merged p) (a .rec .now) (a .nodes .now) (r .0) (omega (arith, r .2)) (p .put-new .ensures)
+    (c .before .if3 .taken) in
+    refuses 4 _ _ _ (ap₂ appended (c .append-refused4 .ensures) (n .1)) (search needs)
 
--- and the room that the merges leave
-rooms : (c : tie.After-merges) →
-    let size = c .before .before .before .before .before .before .before .before .before .args .size in
-    (c .merges .result ≤ 32) × (size ≤ 2 ^ 34) × (2 ^ c .merges .result ≤ size + 1)
-rooms c =
-    let k = known (c .before .before .before) in
-    let r = lefts-room k (c .merges .ensures) in
-    (merges-few k (c .merges .ensures) (omega (arith, k .most, c .before .before .if1 .left)), r .0, r .1)
-
-add-grown : tie.Need-add-grown
-add-grown c = let r = rooms c in omega arith
-
-mul-if3 : tie.Need-mul-if3
-mul-if3 c = let r = rooms c in omega arith
-
-mul-at : tie.Need-mul-at
-mul-at c = let r = rooms (c .before) in omega arith
-
--- no merge: the leaf alone
-same-length : tie.Need-same-length
-same-length c =
-    let a = c .before .before .before .before .before .before .before .before .before .before .before .before .before .before .before .before .before .args in
-    let k = known (c .before .before .before .before .before .before .before .before .before .before .before) in
-    let e = c .before .before .before .before .before .before .before .before .merges .ensures in
-    ap length
-    (leaf-bytes (a .mode .now) (a .rec .now) (a .nodes .now) k e (omega arith) (c .before .before .before .before .before .before .if4 .taken) (c .before .before .write-digest .ensures)
-    (c .before .before .before .before .before .digest-of .ensures))
-    ∙ new-fits (a .mode .now) (a .rec .now) (a .nodes .now) k e (omega arith)
+add-size : tie.Need-add-t13
+add-size c =
+    let p = c .before .before .before in
+    let a = start p .args in
+    let r = rooms p in
+    let n = put-some (digestIn (a .mode .now)) (a .size) (merged p) (a .rec .now) (a .nodes .now) (r .0) (omega (arith, r .2)) (p .put-new .ensures)
+    (c .if3 .left) in
+    omega (arith, n .1)
 
 returns-5 : tie.Need-returns-5
 unfolding appendOutcome appendOver appendOrder
 returns-5 c =
-    let a = c .before .before .before .before .before .before .before .before .before .before .before .before .before .before .before .before .before .args in
-    let k = known (c .before .before .before .before .before .before .before .before .before .before .before) in
-    let m = c .before .before .before .before .before .before .before .before .merges in
-    let z = c .before .before .before .before .before .before .if4 .taken in
-    let g : sizeOf (suc (leaves (a .size))) ≡ a .size + (1 + m .result) = grown-size k (m .ensures) in
-    let h : 1 ≡ 1 + m .result = omega (arith, z) in
-    let w = leaf-bytes (a .mode .now) (a .rec .now) (a .nodes .now) k (m .ensures) (omega arith) z (c .before .before .write-digest .ensures)
-    (c .before .before .before .before .before .digest-of .ensures) in
-    passes _ _ _ (append-done (a .mode .now) (a .rec .now) (a .nodes .now) k (m .ensures) (omega arith) refl refl h w) (search needs)
-
--- and with merges
-lefts-requires : tie.Need-lefts-requires
-lefts-requires c κs = rooms (c .before .before .before)
-
-sub-write-new : tie.Need-sub-write-new
-sub-write-new c = let r = rooms (c .before .before .before .before) in omega arith
-
-part-write-new-start : tie.Need-part-write-new-start
-part-write-new-start c = let r = rooms (c .before .before .before .before) in omega arith
-
-write-new-requires : tie.Need-write-new-requires
-write-new-requires c κs =
-    let a = c .before .before .before .before .before .before .before .before .before .before .before .before .before .before .args in
-    let r = rooms (c .before .before .before .before .before) in
-    let rest = drop (32 * a .size) (a .nodes .now) in
-    (r .0, omega (arith, length-take-le (length (a .nodes .now) - 32 * a .size) rest (omega (arith, length-drop (32 * a .size) (a .nodes .now)))))
-
-same-length-2 : tie.Need-same-length-2
-same-length-2 c =
-    let a = c .before .before .before .before .before .before .before .before .before .before .before .before .before .before .before .before .before .args in
-    let k = known (c .before .before .before .before .before .before .before .before .before .before .before) in
-    let e = c .before .before .before .before .before .before .before .before .merges .ensures in
-    ap length (new-bytes (a .mode .now) (a .rec .now) (a .nodes .now) k e (omega arith) (c .before .before .before .before .lefts .ensures)
-    (c .before .before .write-new .ensures) refl)
-    ∙ new-fits (a .mode .now) (a .rec .now) (a .nodes .now) k e (omega arith)
-
-returns-6 : tie.Need-returns-6
-unfolding appendOutcome appendOver appendOrder
-returns-6 c =
-    let a = c .before .before .before .before .before .before .before .before .before .before .before .before .before .before .before .before .before .args in
-    let k = known (c .before .before .before .before .before .before .before .before .before .before .before) in
-    let m = c .before .before .before .before .before .before .before .before .merges in
-    let g : sizeOf (suc (leaves (a .size))) ≡ a .size + (1 + m .result) = grown-size k (m .ensures) in
-    let w = new-bytes (a .mode .now) (a .rec .now) (a .nodes .now) k (m .ensures) (omega arith) (c .before .before .before .before .lefts .ensures)
-    (c .before .before .write-new .ensures) refl in
-    passes _ _ _ (append-done (a .mode .now) (a .rec .now) (a .nodes .now) k (m .ensures) (omega arith) refl refl refl w) (search needs)
+    let p = c .before .before .before in
+    let a = start p .args in
+    let k = counted p in
+    let g = grown p in
+    let r = rooms p in
+    let n = put-some (digestIn (a .mode .now)) (a .size) (merged p) (a .rec .now) (a .nodes .now) (r .0) (omega (arith, r .2)) (p .put-new .ensures)
+    (c .if3 .left) in
+    let room : 32 * (a .size + (1 + merged p)) ≤ length (a .nodes .now) = n .0 in
+    passes _ _ _
+    (append-done (a .mode .now) (a .rec .now) (a .nodes .now) k (p .before .before .merges .ensures) refl (ap (λ (h : ℕ). a .size + h) (n .1)) (n .1)
+    (n .2))
+    (search needs)
 
 pub append-spec : {M : Type 1} → statement M
 append-spec =
@@ -140,21 +111,10 @@ append-spec =
     (λ c κs. search needs)
     returns-3
     (λ c κs. search needs)
-    (λ c. search needs)
-    (λ c. search needs)
-    add-grown
-    mul-if3
     (λ c κs. search needs)
+    (λ c κs. search needs)
+    (λ c. search needs)
     returns-4
-    mul-at
-    (λ c κs. search needs)
-    (λ c κs. search needs)
-    same-length
-    returns-5
-    lefts-requires
-    sub-write-new
-    part-write-new-start
+    add-size
     (λ c. search needs)
-    write-new-requires
-    same-length-2
-    returns-6)
+    returns-5)

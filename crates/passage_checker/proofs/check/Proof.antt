@@ -1,5 +1,5 @@
 -- `passage_checker::check` meets its contract: the number and how many records there are, of a pass.
-use Rattle.passage_checker.proofs.Handing.{check-handed}
+use Rattle.passage_checker.proofs.Passing.{check-handed}
 use borrow.Author.Needs.{needs}
 use Rattle.passage_checker.proofs.check.Statement.{statement}
 use Rattle.passage_checker.proofs.check.Tie as tie

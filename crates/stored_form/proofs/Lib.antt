@@ -1,0 +1,3 @@
+-- The fields of a stored node, and what its form tells.
+pub mod Fields
+pub mod Formed
