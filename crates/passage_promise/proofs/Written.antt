@@ -17,7 +17,8 @@ use Rattle.letter_promise.specs.Terms.{logSize}
 use Rattle.passage.specs.Request.{requestOrder, Request}
 use Rattle.passage.proofs.Rising.{request-passes}
 use Rattle.passage_fields.proofs.Entries.{AtMost}
-use Rattle.passage_writer.specs.Outcome.{limitsOrder, ourPassage, foreignOrder, writeOrder, writeOver, writeOutcome}
+use Rattle.passage_foresight.specs.Order.{limitsOrder, foreignOrder}
+use Rattle.passage_writer.specs.Outcome.{ourPassage, writeOrder, writeOver, writeOutcome}
 use Rattle.passage_promise.specs.Terms.{recordsAt}
 use Rattle.passage_promise.specs.Promise.{ours}
 use Rattle.letter_promise.proofs.Kept.{Kept, counts, not-foreign}

@@ -13,13 +13,13 @@ use Rattle.shape.specs.Sizes.{countAnswer, leaves}
 use Rattle.shape.proofs.Counting.{Counts}
 use Rattle.nodes.specs.Nodes.{nodeIn}
 use Rattle.passage_writer.specs.Outcome.{ourPassage, writeOrder, writeOver, writeOutcome}
-use Rattle.passage_writer.specs.Steps.{innerOrder}
-use Rattle.passage_writer.proofs.Parts.{inner-pass}
+use Rattle.passage_foresight.specs.Order.{foreseenOrder}
+use Rattle.passage_foresight.proofs.Parts.{foreseen-pass}
 
 module _ (digest : List ℕ → List ℕ) (size : ℕ) (indexes records lengths bs out : List ℕ) where
   -- for m leaves, all refusals but the first and the last
   abbrev inner : ℕ → List Refusal
-  inner m = innerOrder digest (nodeIn bs) (length bs under 32 * size) m indexes records lengths
+  inner m = foreseenOrder digest (nodeIn bs) (length bs under 32 * size) m indexes records lengths
 
   -- all but the last, and the last
   abbrev front : List Refusal
@@ -43,7 +43,7 @@ module _ (digest : List ℕ → List ℕ) (size : ℕ) (indexes records lengths 
 
     -- one between the first and the last
     pub by-inner : {r : WriteOutcome} {met : ℕ}
-        → met ≡ firstNumber (innerOrder digest (nodeIn bs) (length bs under 32 * size) n indexes records lengths) → met ≢ 0
+        → met ≡ firstNumber (foreseenOrder digest (nodeIn bs) (length bs under 32 * size) n indexes records lengths) → met ≢ 0
         → r ≡ writeRefused out met → r ≡ writeOutcome digest size indexes records lengths bs out
     unfolding writeOutcome writeOver writeOrder
     by-inner {met = met} m h e =
@@ -52,11 +52,11 @@ module _ (digest : List ℕ → List ℕ) (size : ℕ) (indexes records lengths 
         early (writeRefused out) front last (writeDone ours out) (e ∙ ap (writeRefused out) f) (λ z. h (f ∙ z))
 
     -- none of these: the output buffer is too short, or it is not
-    module _ (z : 0 ≡ firstNumber (innerOrder digest (nodeIn bs) (length bs under 32 * size) n indexes records lengths)) where
+    module _ (z : 0 ≡ firstNumber (foreseenOrder digest (nodeIn bs) (length bs under 32 * size) n indexes records lengths)) where
       pass : Passes front
       pass = (
         first,
-        inner-pass (leaves size) indexes records lengths digest (nodeIn bs) (length bs under 32 * size)
+        foreseen-pass (leaves size) indexes records lengths digest (nodeIn bs) (length bs under 32 * size)
             (ap (λ (x : ℕ). firstNumber (inner x)) (k .value) ∙ sym z),
       )
 

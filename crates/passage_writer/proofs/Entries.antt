@@ -12,7 +12,7 @@ use Rattle.records.specs.Records.{total, cut}
 use Rattle.records.proofs.Sums.{next-length}
 use Rattle.passage.specs.Bytes.{entries}
 use Rattle.passage_writer.specs.Steps.{endOf, Fitting, Entered}
-use Rattle.passage_writer.proofs.Cutting.{Cutting, cutting-begin, cutting-room, cutting-next, cutting-length, cutting-cut, cutting-end}
+use Rattle.passage_foresight.proofs.Cutting.{Cutting, cutting-begin, cutting-room, cutting-next, cutting-length, cutting-cut, cutting-end}
 use Rattle.passage_writer.proofs.Lengths.{entries-cut}
 
 module _ (is whole ks d : List ℕ) where

@@ -21,7 +21,8 @@ use Rattle.passage.specs.Bytes.{entries, passageBytes}
 use Rattle.passage.specs.Digests.{digestCount, digestsOf, exactLength}
 use Rattle.passage_digests.proofs.Exact.{digests-bytes}
 use Rattle.passage_writer.specs.Outcome.{ourPassage}
-use Rattle.passage_writer.specs.Steps.{OneEach, endOf, Entered}
+use Rattle.passage_foresight.specs.Steps.{OneEach}
+use Rattle.passage_writer.specs.Steps.{endOf, Entered}
 use Rattle.passage_writer.proofs.Lengths.{entries-cut, ours-exact}
 
 module _ (size : ℕ) (is whole ks : List ℕ) (ds : List (List ℕ)) (each : OneEach is whole ks) where

@@ -1,8 +1,4 @@
--- Laws of the writer: its order in parts, its loops, how long the letter is, how it fills the buffer.
-mod Parts
-mod Limits
-mod Cutting
-mod Owned
+-- Laws of the writer: how long the letter is, how it fills the buffer.
 pub mod Lengths
 mod Entries
 mod Fills

@@ -16,7 +16,8 @@ use Rattle.letter.proofs.Foreign.{foreign-local}
 use Rattle.passage.specs.Bytes.{passageBytes}
 use Rattle.passage.specs.Request.{requestOrder}
 use Rattle.passage_digests.proofs.Local.{digests-local}
-use Rattle.passage_writer.specs.Outcome.{limitsOrder, ourPassage, foreignOrder, writeOrder, writeOver, writeOutcome}
+use Rattle.passage_foresight.specs.Order.{limitsOrder, foreignOrder}
+use Rattle.passage_writer.specs.Outcome.{ourPassage, writeOrder, writeOver, writeOutcome}
 
 -- records whose indexes are below the leaf count
 owned-local : (digest : List ℕ → List ℕ) (f g : ℕ → List ℕ) (n : ℕ) → n ≤ 2 ^ 32 → ((p : ℕ) → p < sizeOf n → f p ≡ g p)

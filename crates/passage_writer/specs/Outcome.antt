@@ -3,33 +3,20 @@
 use mathlib.Core.List.{List, [], _∷_, _++_}
 use Prim.Native.Nat.{ℕ, _*_}
 use lib.ListN.{length}
-use Rattle.wire.specs.Limits.{longestRecord}
-use Rattle.order.specs.Order.{Test, Refusal, _if_, _is_, _is-not_, _above_, _under_, _not-below_, verdict}
+use Rattle.order.specs.Order.{Test, Refusal, _if_, _is_, _under_, verdict}
 use Rattle.wire.specs.Writers.{WriteOutcome, writeRefused, writeDone}
 use Rattle.records.specs.Records.{cut, sumsOrder}
 use Rattle.shape.specs.Sizes.{countAnswer, leaves}
 use Rattle.nodes.specs.Nodes.{nodeIn}
-use Rattle.letter.specs.Items.{foreign}
 use Rattle.passage.specs.Bytes.{passageBytes}
 use Rattle.passage.specs.Request.{requestOrder}
 use Rattle.passage.specs.Digests.{digestsOf}
-
--- each record in turn, by its index and its length: index not below the leaf count; record above 16,384
-unfoldable pub limitsOrder : ℕ → List ℕ → List ℕ → List Refusal
-limitsOrder n [] lengths = []
-limitsOrder n (i ∷ indexes) [] = []
-limitsOrder n (i ∷ indexes) (k ∷ lengths) = 5 if i not-below n ∷ 3 if k above longestRecord ∷ limitsOrder n indexes lengths
+use Rattle.passage_foresight.specs.Order.{limitsOrder, foreignOrder}
 
 module _ (digest : List ℕ → List ℕ) where
   -- our letter for these indexes of a log of this size: the records at them, and the digests that the log's nodes give
   unfoldable pub ourPassage : ℕ → List ℕ → List (List ℕ) → (ℕ → List ℕ) → List ℕ
   ourPassage size indexes rs node = passageBytes size indexes rs (digestsOf digest node (leaves size) indexes)
-
-  -- each record in turn: its digest isn't the leaf at its place
-  unfoldable pub foreignOrder : (ℕ → List ℕ) → List ℕ → List (List ℕ) → List Refusal
-  foreignOrder node [] rs = []
-  foreignOrder node (i ∷ indexes) [] = []
-  foreignOrder node (i ∷ indexes) (r ∷ rs) = 13 if foreign digest node i r is-not 0 ∷ foreignOrder node indexes rs
 
   -- no leaf count up to 2^32 has this size; not a request; not one length for each index; lengths that don't add up to the joined bytes; 5 and 3 per
   -- record; node buffer too short; 13 per record; output buffer too short
@@ -40,7 +27,7 @@ module _ (digest : List ℕ → List ℕ) where
       ++ sumsOrder (length indexes) (length records) lengths
       ++ limitsOrder (leaves size) indexes lengths
       ++ (4 if short ∷ [])
-      ++ foreignOrder node indexes (cut lengths records)
+      ++ foreignOrder digest node indexes (cut lengths records)
       ++ (6 if length out under length (ourPassage size indexes (cut lengths records) node) ∷ [])
 
   -- over any nodes and test of number 4

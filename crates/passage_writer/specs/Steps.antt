@@ -1,32 +1,12 @@
 -- What the code's own steps ask and answer, which no public contract cites.
 use mathlib.Core.Path.{_≡_}
-use mathlib.Core.List.{List, [], _∷_, _++_}
+use mathlib.Core.List.{List}
 use Prim.Native.Nat.{ℕ, _+_, _*_, _≤_}
 use lib.ListN.{length}
-use Rattle.order.specs.Order.{Test, Refusal, _if_}
 use Rattle.wire.specs.Slices.{splice}
-use Rattle.records.specs.Records.{total, cut, sumsOrder}
+use Rattle.records.specs.Records.{cut}
 use Rattle.passage.specs.Bytes.{head, frame, entries}
-use Rattle.passage.specs.Request.{requestOrder}
-use Rattle.passage_writer.specs.Outcome.{limitsOrder, foreignOrder}
-
--- ---- parts of the order
-
--- all but the first and the last
-abbrev pub innerOrder : (List ℕ → List ℕ) → (ℕ → List ℕ) → Test → ℕ → List ℕ → List ℕ → List ℕ → List Refusal
-innerOrder digest node short n is records lengths =
-    requestOrder is
-    ++ sumsOrder (length is) (length records) lengths
-    ++ limitsOrder n is lengths
-    ++ (4 if short ∷ [])
-    ++ foreignOrder digest node is (cut lengths records)
-
--- ---- records
-
--- one length for each index, and they add up to the joined bytes
-pub record OneEach (is records lengths : List ℕ) : Type 0 where
-  pub as-many : length lengths ≡ length is
-  pub sum : total lengths ≡ length records
+use Rattle.passage_foresight.specs.Steps.{OneEach}
 
 -- where the records end that stand behind the head
 abbrev pub endOf : List ℕ → List ℕ → ℕ

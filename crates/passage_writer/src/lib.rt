@@ -1,15 +1,11 @@
 // The passage letter for a list of indexes, written from a log's nodes.
 ghost use mathlib.Core.Path.{_≡_};
 ghost use mathlib.Core.List.{[]};
-ghost use Prim.Native.Nat.{_*_, _^_, _≤_};
 ghost use lib.ListN.{length};
-ghost use Rattle.order.specs.Order.{_under_, firstNumber};
 ghost use Rattle.digest.specs.Digest.{digestIn};
 ghost use Rattle.wire.specs.Writers.{wrote, writeRefused};
-ghost use Rattle.records.specs.Records.{cut};
-ghost use Rattle.nodes.specs.Nodes.{nodeIn};
-ghost use Rattle.passage_writer.specs.Outcome.{limitsOrder, foreignOrder, writeOutcome};
-ghost use Rattle.passage_writer.specs.Steps.{innerOrder, OneEach, Fitting, Entered};
+ghost use Rattle.passage_writer.specs.Outcome.{writeOutcome};
+ghost use Rattle.passage_writer.specs.Steps.{Fitting, Entered};
 use shape::Counted;
 use wire::Written;
 
@@ -18,84 +14,6 @@ fn write_refused(number: u32) -> Written
     ensures { λ r. ⌜ wrote r [] ≡ writeRefused [] number ⌝ }
 {
     Written { number, length: 0 }
-}
-
-// The first of 5 and 3 that a record meets, by its index and its length, else 0.
-fn limits_refusal(n: u64, indexes: &[u64], lengths: &[u32]) -> u32
-    requires { ⌜ length (now lengths) ≡ length (now indexes) ⌝ }
-    ensures { λ r. ⌜ r ≡ firstNumber (limitsOrder n (now (indexes .entry)) (now (lengths .entry))) ⌝ }
-{
-    let mut i = 0;
-    while i < indexes.len() {
-        if n <= indexes[i] {
-            return 5;
-        }
-        if wire::LONGEST_RECORD < lengths[i] as usize {
-            return 3;
-        }
-        i += 1;
-    }
-    0
-}
-
-// 13 where a record's digest is not the leaf at its place, else 0.
-fn foreign_refusal(
-    mode: &[u8; 36],
-    indexes: &[u64],
-    records: &[u8],
-    lengths: &[u32],
-    nodes: &[u8],
-) -> u32
-    requires { ⌜ OneEach (now indexes) (now records) (now lengths) ⌝ }
-    ensures { λ r. ⌜ r ≡ firstNumber (foreignOrder (digestIn (now (mode .entry))) (nodeIn (now (nodes .entry))) (now (indexes .entry))
-        (cut (now (lengths .entry)) (now (records .entry)))) ⌝ }
-{
-    let count = indexes.len();
-    let mut at = 0;
-    let mut i = 0;
-    while i < count {
-        let end = at + lengths[i] as usize;
-        let own = digest::digest_of(mode, &records[at..end]);
-        if letter::leaf::foreign(nodes, indexes[i], own) != 0 {
-            return 13;
-        }
-        at = end;
-        i += 1;
-    }
-    0
-}
-
-// The first of 19, 16, 5, 3, 4 and 13 that applies, else 0.
-fn refusal(
-    mode: &[u8; 36],
-    size: u64,
-    n: u64,
-    indexes: &[u64],
-    records: &[u8],
-    lengths: &[u32],
-    nodes: &[u8],
-) -> u32
-    requires { ⌜ size ≤ 2 ^ 34 ⌝ }
-    ensures { λ r. ⌜ r
-        ≡ firstNumber (innerOrder (digestIn (now (mode .entry))) (nodeIn (now (nodes .entry))) (length (now (nodes .entry)) under 32 * size) n
-        (now (indexes .entry)) (now (records .entry)) (now (lengths .entry))) ⌝ }
-{
-    let asked = passage::request::request_refusal(indexes);
-    if asked != 0 {
-        return asked;
-    }
-    let summed = records::sums_refusal(indexes.len(), records.len(), lengths);
-    if summed != 0 {
-        return summed;
-    }
-    let limited = limits_refusal(n, indexes, lengths);
-    if limited != 0 {
-        return limited;
-    }
-    if (nodes.len() as u64) < 32 * size {
-        return 4;
-    }
-    foreign_refusal(mode, indexes, records, lengths, nodes)
 }
 
 // Writes the records behind the letter's head, each behind its index and its length. Returns the place behind them.
@@ -138,7 +56,7 @@ pub fn write_passage(
     let Counted::Leaves(n) = c else {
         return write_refused(1);
     };
-    let met = refusal(mode, size, n, indexes, records, lengths, nodes);
+    let met = passage_foresight::foresee(mode, size, n, indexes, records, lengths, nodes);
     if met != 0 {
         return write_refused(met);
     }

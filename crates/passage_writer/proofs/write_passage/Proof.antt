@@ -6,14 +6,14 @@ use borrow.Author.Needs.{needs}
 use lib.ListN.{length}
 use Rattle.order.specs.Order.{firstNumber, _under_}
 use Rattle.digest.specs.Digest.{digestIn}
-use Rattle.shape.proofs.Sizes.{size-le}
 use Rattle.shape.proofs.Counting.{Counts, counts-leaves, counts-none}
 use Rattle.nodes.specs.Nodes.{nodeIn}
 use Rattle.passage.specs.Digests.{digestCount}
 use Rattle.passage.proofs.Digests.{count-few}
 use Rattle.wire.proofs.Writers.{refused-is}
-use Rattle.passage_writer.specs.Steps.{innerOrder, endOf}
-use Rattle.passage_writer.proofs.Parts.{Known, inner-known}
+use Rattle.passage_foresight.specs.Order.{foreseenOrder}
+use Rattle.passage_writer.specs.Steps.{endOf}
+use Rattle.passage_foresight.proofs.Parts.{Known, foreseen-known}
 use Rattle.passage_writer.proofs.Fills.{our-length, passage-done}
 use Rattle.passage_writer.proofs.Answers.{by-size, by-inner, by-room, by-none}
 use Rattle.passage_writer.proofs.write_passage.Statement.{statement}
@@ -34,15 +34,12 @@ module _ (c : tie.After-known-told) where
   counts : Counts (given .args .size) (c .before .c .given .0 .0)
   counts = counts-leaves (c .before .before .before .leaf-count .ensures) (c .before .c .given .1)
 
-refusal-requires : tie.Need-refusal-requires
-refusal-requires c κs = let k = counts c in omega (arith, size-le (c .before .c .given .0 .0))
-
 returns-2 : tie.Need-returns-2
 returns-2 c =
     let met = c .before .before in
     let a = given (met .before) .args in
     by-inner (digestIn (a .mode .now)) (a .size) (a .indexes .now) (a .records .now) (a .lengths .now) (a .nodes .now) (a .out .now)
-    (counts (met .before)) (met .refusal .ensures) (c .before .if1 .taken) (refused-is (a .out .now) (c .write-refused2 .ensures))
+    (counts (met .before)) (met .foresee .ensures) (c .before .if1 .taken) (refused-is (a .out .now) (c .write-refused2 .ensures))
 
 -- no refusal but the last applies
 module _ (c : tie.After-digest-count) where
@@ -50,14 +47,14 @@ module _ (c : tie.After-digest-count) where
   told = c .before .before .before
 
   none : let a = given told .args in
-      0 ≡ firstNumber (innerOrder (digestIn (a .mode .now)) (nodeIn (a .nodes .now)) (length (a .nodes .now) under 32 * a .size)
+      0 ≡ firstNumber (foreseenOrder (digestIn (a .mode .now)) (nodeIn (a .nodes .now)) (length (a .nodes .now) under 32 * a .size)
       (told .before .c .given .0 .0) (a .indexes .now) (a .records .now) (a .lengths .now))
-  none = sym (c .before .if1 .left) ∙ c .before .before .refusal .ensures
+  none = sym (c .before .if1 .left) ∙ c .before .before .foresee .ensures
 
   known : let a = given told .args in Known (told .before .c .given .0 .0) (a .indexes .now) (a .records .now) (a .lengths .now)
   known =
       let a = given told .args in
-      inner-known (told .before .c .given .0 .0) (a .indexes .now) (a .records .now) (a .lengths .now) (digestIn (a .mode .now))
+      foreseen-known (told .before .c .given .0 .0) (a .indexes .now) (a .records .now) (a .lengths .now) (digestIn (a .mode .now))
       (nodeIn (a .nodes .now)) (length (a .nodes .now) under 32 * a .size) (sym none)
 
   -- no sum wraps
@@ -117,7 +114,7 @@ write-passage-spec =
     (λ c. search needs)
     (λ c κs. search needs)
     returns
-    refusal-requires
+    (λ c κs. search needs)
     (λ c κs. search needs)
     returns-2
     (λ c κs. search needs)

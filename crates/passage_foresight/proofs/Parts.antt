@@ -9,10 +9,11 @@ use Rattle.order.specs.Order.{Test, Refusal, _if_, firstNumber}
 use Rattle.order.proofs.Laws.{Passes, numbered, numbered-append, clear, pass-parts}
 use Rattle.records.specs.Records.{cut, sumsOrder}
 use Rattle.passage.specs.Request.{risingOrder, requestOrder}
-use Rattle.passage_writer.specs.Outcome.{limitsOrder, foreignOrder}
-use Rattle.passage_writer.specs.Steps.{innerOrder, OneEach}
-use Rattle.passage_writer.proofs.Limits.{limits-numbered, limits-total}
-use Rattle.passage_writer.proofs.Owned.{foreign-numbered}
+use Rattle.passage_foresight.specs.Order.{limitsOrder, foreignOrder}
+use Rattle.passage_foresight.specs.Order.{foreseenOrder}
+use Rattle.passage_foresight.specs.Steps.{OneEach}
+use Rattle.passage_foresight.proofs.Limits.{limits-numbered, limits-total}
+use Rattle.passage_foresight.proofs.Owned.{foreign-numbered}
 
 -- ---- every number is above 0
 
@@ -57,12 +58,12 @@ module _ (n : ℕ) (is whole ks : List ℕ) where
     abbrev owned : List Refusal
     owned = foreignOrder digest node is (cut ks whole)
 
-    pub inner-pass : firstNumber (innerOrder digest node short n is whole ks) ≡ 0 → Passes (innerOrder digest node short n is whole ks)
-    inner-pass z =
+    pub foreseen-pass : firstNumber (foreseenOrder digest node short n is whole ks) ≡ 0 → Passes (foreseenOrder digest node short n is whole ks)
+    foreseen-pass z =
         let a : T (numbered sums) = numbered-append (requestOrder is) (sumsOrder (length is) (length whole) ks) (request-numbered is) tt in
         let b : T (numbered limits) = numbered-append sums (limitsOrder n is ks) a (limits-numbered n is ks) in
         let c : T (numbered nodes) = numbered-append limits (4 if short ∷ []) b tt in
         clear (nodes ++ owned) (numbered-append nodes owned c (foreign-numbered digest node is (cut ks whole))) z
 
-    pub inner-known : firstNumber (innerOrder digest node short n is whole ks) ≡ 0 → Known
-    inner-known z = known-by (pass-parts limits (4 if short ∷ []) (pass-parts nodes owned (inner-pass z) .0) .0)
+    pub foreseen-known : firstNumber (foreseenOrder digest node short n is whole ks) ≡ 0 → Known
+    foreseen-known z = known-by (pass-parts limits (4 if short ∷ []) (pass-parts nodes owned (foreseen-pass z) .0) .0)

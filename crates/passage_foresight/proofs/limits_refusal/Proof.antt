@@ -2,9 +2,9 @@
 use Prim.Native.Nat.{_-_}
 use native.Mathlib.Omega.{arith}
 use lib.ListN.{length}
-use Rattle.passage_writer.proofs.Limits.{Limits, limits-begin, limits-index, limits-length, limits-next, limits-end}
-use Rattle.passage_writer.proofs.limits_refusal.Statement.{statement}
-use Rattle.passage_writer.proofs.limits_refusal.Tie as tie
+use Rattle.passage_foresight.proofs.Limits.{Limits, limits-begin, limits-index, limits-length, limits-next, limits-end}
+use Rattle.passage_foresight.proofs.limits_refusal.Statement.{statement}
+use Rattle.passage_foresight.proofs.limits_refusal.Tie as tie
 
 abbrev Inv-loop : tie.InvT-loop
 Inv-loop n indexes lengths i₀ i = Limits n indexes lengths i

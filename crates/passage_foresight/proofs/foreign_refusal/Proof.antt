@@ -8,10 +8,10 @@ use Rattle.digest.specs.Digest.{digestIn}
 use Rattle.nodes.specs.Nodes.{nodeIn}
 use Rattle.letter.specs.Items.{foreign}
 use Rattle.letter.proofs.Foreign.{foreign-by}
-use Rattle.passage_writer.proofs.Cutting.{cutting-room}
-use Rattle.passage_writer.proofs.Owned.{Owned, owned-begin, owned-other, owned-next, owned-end}
-use Rattle.passage_writer.proofs.foreign_refusal.Statement.{statement}
-use Rattle.passage_writer.proofs.foreign_refusal.Tie as tie
+use Rattle.passage_foresight.proofs.Cutting.{cutting-room}
+use Rattle.passage_foresight.proofs.Owned.{Owned, owned-begin, owned-other, owned-next, owned-end}
+use Rattle.passage_foresight.proofs.foreign_refusal.Statement.{statement}
+use Rattle.passage_foresight.proofs.foreign_refusal.Tie as tie
 
 abbrev Inv-loop : tie.InvT-loop
 Inv-loop mode indexes records lengths nodes count at₀ i₀ at i = Owned (digestIn mode) (nodeIn nodes) indexes records lengths at i

@@ -10,9 +10,9 @@ use Rattle.order.proofs.Laws.{numbered, first-is, first-none, first-next}
 use Rattle.records.specs.Records.{cut}
 use Rattle.records.proofs.Sums.{next-length}
 use Rattle.letter.specs.Items.{foreign}
-use Rattle.passage_writer.specs.Outcome.{foreignOrder}
-use Rattle.passage_writer.specs.Steps.{OneEach}
-use Rattle.passage_writer.proofs.Cutting.{Cutting, cutting-begin, cutting-next, cutting-cut}
+use Rattle.passage_foresight.specs.Order.{foreignOrder}
+use Rattle.passage_foresight.specs.Steps.{OneEach}
+use Rattle.passage_foresight.proofs.Cutting.{Cutting, cutting-begin, cutting-next, cutting-cut}
 
 module _ (digest : List ℕ → List ℕ) (node : ℕ → List ℕ) where
   -- its numbers are above 0

@@ -11,11 +11,11 @@ use Rattle.digest.specs.Digest.{digestIn}
 use Rattle.nodes.specs.Nodes.{nodeIn}
 use Rattle.records.specs.Records.{cut, sumsOrder}
 use Rattle.passage.specs.Request.{requestOrder}
-use Rattle.passage_writer.specs.Outcome.{limitsOrder, foreignOrder}
-use Rattle.passage_writer.proofs.Limits.{limits-numbered}
-use Rattle.passage_writer.proofs.Parts.{request-numbered, known-by}
-use Rattle.passage_writer.proofs.refusal.Statement.{statement}
-use Rattle.passage_writer.proofs.refusal.Tie as tie
+use Rattle.passage_foresight.specs.Order.{limitsOrder, foreignOrder}
+use Rattle.passage_foresight.proofs.Limits.{limits-numbered}
+use Rattle.passage_foresight.proofs.Parts.{request-numbered, known-by}
+use Rattle.passage_foresight.proofs.foresee.Statement.{statement}
+use Rattle.passage_foresight.proofs.foresee.Tie as tie
 
 -- ---- the parts
 
@@ -111,8 +111,8 @@ returns-5 c =
     first-late (request s ++ sums s ++ limits s ++ short s) (owned s)
     (pass-whole (request s ++ sums s ++ limits s) (short s) (limited (c .before .before)) (omega arith, tt)) (c .foreign-refusal .ensures)
 
-pub refusal-spec : {M : Type 1} → statement M
-refusal-spec =
+pub foresee-spec : {M : Type 1} → statement M
+foresee-spec =
     tie.close
     (tie.spec
     (λ c κs. search needs)
@@ -121,7 +121,6 @@ refusal-spec =
     returns-2
     limits-refusal-requires
     returns-3
-    (λ c. search needs)
     returns-4
     foreign-refusal-requires
     returns-5)

@@ -9,7 +9,7 @@ use Rattle.order.specs.Order.{firstNumber, _not-below_, _above_, _if_}
 use Rattle.order.proofs.Laws.{Passes, numbered, first-is, first-none, first-next}
 use Rattle.records.specs.Records.{total}
 use Rattle.records.proofs.Sums.{next-length, total-none, total-cons}
-use Rattle.passage_writer.specs.Outcome.{limitsOrder}
+use Rattle.passage_foresight.specs.Order.{limitsOrder}
 
 -- its numbers are above 0
 pub limits-numbered : (n : ℕ) (is ks : List ℕ) → T (numbered (limitsOrder n is ks))

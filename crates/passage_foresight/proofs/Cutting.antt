@@ -8,7 +8,7 @@ use lib.Seq.{length-take-le, drop-drop}
 use Rattle.records.specs.Records.{total, cut}
 use Rattle.records.proofs.Sums.{next-length, total-none, total-cons}
 use Rattle.records.proofs.Cuts.{cut-next}
-use Rattle.passage_writer.specs.Steps.{OneEach}
+use Rattle.passage_foresight.specs.Steps.{OneEach}
 
 module _ (is whole ks : List ℕ) where
   pub record Cutting (at i : ℕ) : Type 0 where
