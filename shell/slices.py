@@ -1,8 +1,8 @@
 #!/usr/bin/env python3
 """slices.py COMMAND..: runs a command whose processes keep a processor for 100 milliseconds at a time, and so what they have in its cache.
 
-Where more of them want to run than there are processors, Linux otherwise takes turns every few milliseconds. From 6.12 on it grants longer turns to whoever
-asks; where it does not, the command runs as it would have.
+Where more of them want to run than there are processors, Linux otherwise takes turns every few milliseconds. From 6.12 on it grants longer turns to
+whoever asks; where it does not, the command runs as it would have.
 """
 import ctypes
 import os
