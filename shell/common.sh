@@ -46,10 +46,11 @@ demand_cc() {
     [ -z "${CC-}" ] || command -v "${CC%% *}" >/dev/null 2>&1 || die "CC is ${CC%% *}, and there is no such command"
 }
 
-# rt_libraries CRATE..: proves the crates where that is not done, and writes their archives, as many at a time as there are processors
+# rt_libraries CRATE..: proves the crates where that is not done, and writes their archives, one after the other: two at once would read each other's
+# results of the crates that both see, half written
 rt_libraries() {
     say "proving and building the library $1, which takes some minutes the first time"
-    (cd "$top" && rt check "$@" && printf '%s\n' "$@" | xargs -P "$(nproc)" -n 1 rt staticlib) >"$work/rt.log" 2>&1 </dev/null ||
+    (cd "$top" && rt check "$@" && printf '%s\n' "$@" | xargs -n 1 rt staticlib) >"$work/rt.log" 2>&1 </dev/null ||
         { cat "$work/rt.log" >&2; die "$1 was not built"; }
 }
 

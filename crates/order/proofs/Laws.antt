@@ -232,30 +232,21 @@ verdict-idle refused [] m t ys done h = next refused done m t ys (false-of t (h 
 verdict-idle refused (k if u ∷ xs) m t ys done h =
     verdict-both refused k u (xs ++ (m if t ∷ ys)) (xs ++ ys) done done (λ f. verdict-idle refused xs m t ys done (λ p. h (f, p)))
 
--- ---- the numbers of an order
+-- ---- a number that an order does not have
 
--- the number of every entry passes a test: `tt`, where the order is written out
-abbrev pub every : (ℕ → Bool) → List Refusal → Bool
-every test [] = true
-every test (m if t ∷ later) = test m && every test later
-
--- so does the number that is answered, unless it is 0
-pub among : (test : ℕ → Bool) (order : List Refusal) → T (every test order) → firstNumber order ≢ 0 → test (firstNumber order) ≡ true
-unfolding firstNumber verdict
-among test [] h z = absurd (z refl)
-among test (m if t ∷ later) h z =
-    let a = both (test m) (every test later) h in
-    by-test t (λ p. ap test (stop (λ k. k) 0 m t later p) ∙ a .0)
-    (λ p. let n = next (λ k. k) 0 m t later p in ap test n ∙ among test later (a .1) (λ e. z (n ∙ e)))
-
--- no entry of an order has the number n
+-- no entry of an order has the number n: `tt`, where the order is written out
 abbrev pub lacks : ℕ → List Refusal → Bool
-lacks n order = every (λ m. not (eqb n m)) order
+lacks n [] = true
+lacks n (m if t ∷ later) = not (eqb n m) && lacks n later
 
 -- it is answered to no input
 pub never : (n : ℕ) (order : List Refusal) → T (lacks n order) → n ≢ 0 → firstNumber order ≢ n
-never n order h z e =
-    eqb-false n (firstNumber order) (not-true (eqb n (firstNumber order)) (among (λ m. not (eqb n m)) order h (λ f. z (sym e ∙ f)))) (sym e)
+unfolding firstNumber verdict
+never n [] h z e = z (sym e)
+never n (m if t ∷ later) h z e =
+    let a = both (not (eqb n m)) (lacks n later) h in
+    by-test t (λ p. eqb-false n m (not-true (eqb n m) (a .0)) (sym e ∙ stop (λ k. k) 0 m t later p))
+    (λ p. never n later (a .1) z (sym (next (λ k. k) 0 m t later p) ∙ e))
 
 -- ---- one outcome
 

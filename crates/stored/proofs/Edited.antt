@@ -10,10 +10,10 @@ use Rattle.wire.specs.Numbers.{Bytes}
 use Rattle.wire.specs.Slices.{zeros}
 use Rattle.wire.proofs.Differences.{differ-other}
 use Rattle.order.proofs.Laws.{refuses}
-use Rattle.stored_form.specs.Nodes.{leafBytes, flagIn, namedIn, statedIn, recordIn}
-use Rattle.stored.specs.Read.{leaf, readRefused, lies, readOutcome}
-use Rattle.stored_form.proofs.Fields.{leaf-whole}
-use Rattle.stored.proofs.Flags.{onLeafRead, read-leaf}
+use Rattle.stored.specs.Nodes.{leafBytes, flagIn, namedIn, statedIn, recordIn, lies}
+use Rattle.stored.specs.Read.{leaf, readRefused, readOutcome}
+use Rattle.stored.proofs.Fields.{leaf-whole}
+use Rattle.stored.proofs.Flags.{onLeaf, read-leaf}
 use Rattle.stored.proofs.Ends.{of-leaf}
 
 module _ (digest : List ℕ → List ℕ) (bs : List ℕ) where
@@ -23,7 +23,7 @@ module _ (digest : List ℕ → List ℕ) (bs : List ℕ) where
   unfolding lies
   lying-leaf f w e o =
       let d : lies digest bs ≡ 1 = differ-other _ _ o in
-      read-leaf digest bs f ∙ sym (refuses 18 _ (onLeafRead digest bs) _ refl (search needs))
+      read-leaf digest bs f ∙ sym (refuses 18 _ (onLeaf digest bs) _ refl (search needs))
 
   -- the digest in a leaf that is read as done is that of its record
   pub leaf-true : readOutcome digest bs .kind ≡ leaf → readOutcome digest bs .digest ≡ digest (recordIn bs)

@@ -10,11 +10,9 @@ use Rattle.wire.specs.Slices.{zeros}
 use Rattle.wire.proofs.Parts.{part-length}
 use Rattle.wire.proofs.Differences.{differ-same, same-of-differ}
 use Rattle.order.proofs.Laws.{refuses, passes, accepted, refusal}
-use Rattle.stored_form.specs.Nodes.{flagIn, namedIn, statedIn, recordIn}
-use Rattle.stored.specs.Read.{inner, leaf, ReadOutcome, readRefused, innerRead, leafRead, lies, readOrder, readOutcome}
-use Rattle.stored_form.specs.Form.{formOrder}
-use Rattle.stored_form.proofs.Formed.{onInner}
-use Rattle.stored.proofs.Flags.{read-inner, onLeafRead, read-leaf}
+use Rattle.stored.specs.Nodes.{flagIn, namedIn, statedIn, recordIn, lies}
+use Rattle.stored.specs.Read.{inner, leaf, ReadOutcome, readRefused, innerRead, leafRead, readOrder, readOutcome}
+use Rattle.stored.proofs.Flags.{onInner, read-inner, onLeaf, read-leaf}
 
 -- bytes that are read as an inner node
 pub record InnerNode (digest : List ℕ → List ℕ) (bs : List ℕ) : Type 0 where
@@ -45,7 +43,7 @@ module _ (digest : List ℕ → List ℕ) (bs : List ℕ) where
         within = w;
         exact = e;
         true-digest = t;
-        outcome = read-leaf digest bs f ∙ sym (passes _ (onLeafRead digest bs) _ refl (search needs));
+        outcome = read-leaf digest bs f ∙ sym (passes _ (onLeaf digest bs) _ refl (search needs));
       }
 
 -- a reading ends as one of the two or as a refusal
@@ -68,13 +66,13 @@ module _ (digest : List ℕ → List ℕ) (bs : List ℕ) where
   unfolding lies
   ends-leaf f = elim (ℕ-discrete (readOutcome digest bs .number) 0) [
     | yes z ↦
-        let p = accepted number _ (onLeafRead digest bs) _ (λ n. refl) refl (read-leaf digest bs f) tt z .0 in
+        let p = accepted number _ (onLeaf digest bs) _ (λ n. refl) refl (read-leaf digest bs f) tt z .0 in
         at-leaf (leaf-node digest bs f (p .1 .1 .1 .0) (p .1 .1 .1 .1 .0) (same-of-differ _ _ (p .1 .1 .1 .1 .1 .0)))
-    | no z ↦ refused _ (refusal number _ (onLeafRead digest bs) _ (λ n. refl) refl (read-leaf digest bs f) z)
+    | no z ↦ refused _ (refusal number _ (onLeaf digest bs) _ (λ n. refl) refl (read-leaf digest bs f) z)
   ]
 
   ends-unknown : 1 < flagIn bs → Ends digest bs
-  unfolding readOutcome readOrder formOrder
+  unfolding readOutcome readOrder
   ends-unknown f = refused 11 (sym (refuses 11 _ _ _ refl (λ h h′. absurd (omega arith))))
 
   ended : Ends digest bs

@@ -1,2 +1,3 @@
--- Stored nodes: what reading one returns.
+-- Stored nodes: their bytes, and what reading one returns.
+pub mod Nodes
 pub mod Read

@@ -1,17 +1,18 @@
 -- What reading a stored node returns, and the part of the bytes that is its record.
 use mathlib.Core.Bool.{true, false}
 use mathlib.Core.List.{List, [], _∷_, _++_}
-use Prim.Native.Nat.{ℕ}
+use Prim.Native.Nat.{ℕ, _+_}
 use denote.Ref.{RefT, now}
 use lib.Dec.{eqb}
-use Rattle.wire.specs.Slices.{differ, zeros}
+use lib.ListN.{length}
+use Rattle.wire.specs.Limits.{longestRecord}
+use Rattle.wire.specs.Slices.{zeros}
 use Rattle.wire.specs.Lent.{Part, partOf}
-use Rattle.order.specs.Order.{Refusal, _if_, _is-not_, verdict}
-use Rattle.stored_form.specs.Nodes.{flagIn, namedIn, statedIn, recordIn}
-use Rattle.stored_form.specs.Form.{forFlag, formOrder}
+use Rattle.order.specs.Order.{Refusal, _if_, _under_, _above_, _is-not_, verdict}
 use Rattle.stored.specs.declared.Node.{Node}
 use Rattle.stored.specs.declared.Node.the-variants.{Inner, Leaf, NotANode, RecordTooLong, OtherDigest}
 use Rattle.stored.specs.declared.Reading.{Reading}
+use Rattle.stored.specs.Nodes.{flagIn, namedIn, statedIn, lies}
 
 -- the kind of a node; a refusal has none
 pub data Kind : Type 0 where
@@ -49,13 +50,21 @@ valuesOf OtherDigest digest = readRefused digest 18
 abbrev pub readOff : Reading → ReadOutcome
 readOff answer = valuesOf (answer .node) (answer .digest)
 
--- 0 where the digest that a leaf names is that of its record, else 1
-unfoldable pub lies : (List ℕ → List ℕ) → List ℕ → ℕ
-lies digest bs = differ (digest (recordIn bs)) (namedIn bs)
+-- refusals that only a node with this flag meets
+abbrev pub forFlag : ℕ → List ℕ → List Refusal → List Refusal
+forFlag flag bs order = elim (eqb (flagIn bs) flag) [ true ↦ order | false ↦ [] ]
 
--- 11, 3 and 11 for the form; then, of a leaf, 18 for the digest
+-- 11 for under 33 bytes, unknown flag, an inner node not of 33, a leaf under 37; then 3; then 11 for the exact length; then 18 for the digest
 unfoldable pub readOrder : (List ℕ → List ℕ) → List ℕ → List Refusal
-readOrder digest bs = formOrder bs ++ forFlag 1 bs (18 if lies digest bs is-not 0 ∷ [])
+readOrder digest bs =
+    (11 if length bs under 33 ∷ 11 if flagIn bs above 1 ∷ [])
+    ++ forFlag 0 bs (11 if length bs is-not 33 ∷ [])
+    ++ forFlag 1 bs
+    (11 if length bs under 37
+    ∷ 3 if statedIn bs above longestRecord
+    ∷ 11 if length bs is-not (37 + statedIn bs)
+    ∷ 18 if lies digest bs is-not 0
+    ∷ [])
 
 -- done: an inner node, or a leaf with its stated record length
 unfoldable pub readDone : List ℕ → ReadOutcome

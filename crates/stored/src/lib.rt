@@ -7,7 +7,7 @@ ghost use lib.ListN.{length};
 ghost use Rattle.wire.specs.Slices.{zeros};
 ghost use Rattle.wire.specs.Lent.{lent};
 ghost use Rattle.digest.specs.Digest.{digestIn};
-ghost use Rattle.stored_form.specs.Nodes.{statedIn, recordIn};
+ghost use Rattle.stored.specs.Nodes.{statedIn, recordIn};
 ghost use Rattle.stored.specs.Read.{valuesOf, readOff, readOutcome, recordPart};
 
 // What reading finds, a kind or a refusal: each refusal has a case of its own.
@@ -32,29 +32,44 @@ pub struct Reading {
 // Where the record of a leaf begins.
 pub const RECORD_AT: usize = 37;
 
-// Reads a node. Refuses by 11, 3 and 11 for its form; then by 18 for the digest of a leaf.
+// Reads a node. Refuses by 11 for under 33 bytes, unknown flag, an inner node not of 33, a leaf under 37; then by 3; then by 11 for the
+// exact length; then by 18 for the digest of a leaf.
 pub fn read_node(mode: &[u8; 36], bytes: &[u8]) -> Reading
     ensures { λ r. ⌜ readOff r ≡ readOutcome (digestIn (now (mode .entry))) (now (bytes .entry)) ⌝ }
 {
-    let number = stored_form::form(bytes);
-    if number == 3 {
-        return read_refused(Node::RecordTooLong);
-    }
-    if number != 0 {
+    let length = bytes.len();
+    if length < 33 {
         return read_refused(Node::NotANode);
     }
-    if bytes[0] == 0 {
+    let flag = bytes[0];
+    if 1 < flag {
+        return read_refused(Node::NotANode);
+    }
+    if flag == 0 {
+        if length != 33 {
+            return read_refused(Node::NotANode);
+        }
         return Reading {
             node: Node::Inner,
             digest: wire::read_digest(bytes, 1),
         };
+    }
+    if length < 37 {
+        return read_refused(Node::NotANode);
+    }
+    let stated = wire::read4(bytes, 33) as usize;
+    if wire::LONGEST_RECORD < stated {
+        return read_refused(Node::RecordTooLong);
+    }
+    if length != 37 + stated {
+        return read_refused(Node::NotANode);
     }
     let worked = worked_out(mode, bytes);
     if wire::differ(&worked, &bytes[1..33]) != 0 {
         return read_refused(Node::OtherDigest);
     }
     Reading {
-        node: Node::Leaf(bytes.len() - RECORD_AT),
+        node: Node::Leaf(stated),
         digest: wire::read_digest(bytes, 1),
     }
 }

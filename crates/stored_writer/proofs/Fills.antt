@@ -10,8 +10,8 @@ use Rattle.wire.specs.Writers.{wrote, writeDone}
 use Rattle.wire.proofs.Numbers.{be-length}
 use Rattle.wire.proofs.Writers.{write-done}
 use Rattle.wire.proofs.Splices.{written-fits, written-next}
-use Rattle.stored_form.specs.Nodes.{innerBytes, leafBytes}
-use Rattle.stored_form.proofs.Fields.{head-length, leaf-length}
+use Rattle.stored.specs.Nodes.{innerBytes, leafBytes}
+use Rattle.stored.proofs.Fields.{head-length, leaf-length}
 
 -- flag and digest, the fields that both kinds begin with
 head-filled : (flag : ℕ) (digest out : List ℕ) {l₁ l₂ : List ℕ} → 1 + length digest ≤ length out

@@ -10,11 +10,11 @@ use Rattle.wire.specs.Numbers.{Bytes}
 use Rattle.wire.proofs.Parts.{part-length}
 use Rattle.wire.proofs.Splices.{splice-front}
 use Rattle.order.proofs.Laws.{passes, accepted}
-use Rattle.stored_form.specs.Nodes.{innerBytes, leafBytes, statedIn, recordIn}
+use Rattle.stored.specs.Nodes.{innerBytes, leafBytes, statedIn, recordIn}
 use Rattle.wire.specs.Writers.{WriteOutcome, writeRefused, writeDone}
 use Rattle.stored_writer.specs.Outcome.{leafOrder, innerOrder, leafOutcome, innerOutcome}
 use Rattle.stored.specs.Read.{inner, leaf, innerRead, leafRead, readOutcome}
-use Rattle.stored_form.proofs.Fields.{inner-digest, leaf-length, leaf-digest, leaf-stated, leaf-record, inner-whole}
+use Rattle.stored.proofs.Fields.{inner-digest, leaf-length, leaf-digest, leaf-stated, leaf-record, inner-whole}
 use Rattle.stored.proofs.Edited.{leaf-own}
 use Rattle.stored.proofs.Ends.{inner-node, leaf-node, of-inner, of-leaf}
 

@@ -5,7 +5,7 @@ use lib.ListN.{length}
 use Rattle.wire.specs.Limits.{longestRecord}
 use Rattle.wire.specs.Writers.{WriteOutcome, writeRefused, writeDone}
 use Rattle.order.specs.Order.{Refusal, _if_, _under_, _above_, verdict}
-use Rattle.stored_form.specs.Nodes.{innerBytes, leafBytes}
+use Rattle.stored.specs.Nodes.{innerBytes, leafBytes}
 
 -- stored leaf, written: 3, 6
 abbrev pub leafOrder : List ℕ → List ℕ → List Refusal

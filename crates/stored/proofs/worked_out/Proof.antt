@@ -1,7 +1,7 @@
 -- `stored::worked_out` meets its contract: what is hashed is the record, up to the end.
 use mathlib.Core.Path.{ap, _∙_}
 use Rattle.digest.specs.Digest.{digestIn}
-use Rattle.stored_form.proofs.Fields.{record-slice}
+use Rattle.stored.proofs.Fields.{record-slice}
 use borrow.Author.Needs.{needs}
 use Rattle.stored.proofs.worked_out.Statement.{statement}
 use Rattle.stored.proofs.worked_out.Tie as tie

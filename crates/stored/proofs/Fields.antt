@@ -1,16 +1,16 @@
 -- The fields of a stored node: each is read where it was put, and put together they are the node again.
-use mathlib.Core.Path.{_≡_, refl, sym, ap, _∙_}
+use mathlib.Core.Path.{_≡_, refl, sym, ap, ap₂, _∙_}
 use mathlib.Core.List.{List, [], _∷_, _++_, append-assoc}
-use Prim.Native.Nat.{ℕ, _+_, _-_, _^_, _<_}
+use Prim.Native.Nat.{ℕ, _+_, _-_, _^_, _≤_, _<_}
 use native.Mathlib.Omega.{arith}
 use lib.ListN.{length, take, drop, length-append}
 use Rattle.wire.specs.Numbers.{be, Bytes}
-use Rattle.wire.specs.Slices.{part}
+use Rattle.wire.specs.Slices.{part, differ}
 use Rattle.wire.proofs.Numbers.{be-length}
 use Rattle.wire.proofs.Parts.{part-length, part-whole, part-past, part-field, part-add}
 use Rattle.wire.proofs.Lent.{slice-part}
 use Rattle.wire.proofs.Places.{number-field, be-part}
-use Rattle.stored_form.specs.Nodes.{innerBytes, leafBytes, flagIn, namedIn, statedIn, recordIn}
+use Rattle.stored.specs.Nodes.{innerBytes, leafBytes, flagIn, namedIn, statedIn, recordIn, lies}
 
 -- ---- as they were put
 
@@ -69,9 +69,15 @@ module _ (bs : List ℕ) where
       = part-add 0 37 n bs ∙ rw (part-add 0 33 4 bs, head) in
       rw (h, ← f, part-length, be-part 33 4 bs b) (sym p ∙ whole (37 + n) e)
 
--- ---- lent
+-- ---- compared
 
 -- in a leaf of the exact length the record is all that stands behind the record length
 pub record-slice : (bs : List ℕ) → length bs ≡ 37 + statedIn bs → take (length bs - 37) (drop 37 bs) ≡ recordIn bs
 unfolding recordIn
 record-slice bs e = ap (λ (n : ℕ). take (n - 37) (drop 37 bs)) e ∙ slice-part 37 (statedIn bs) bs (omega arith)
+
+-- what was worked out, compared with the digest that stands there
+pub lies-by : (digest : List ℕ → List ℕ) (bs : List ℕ) {worked : List ℕ} → worked ≡ digest (recordIn bs) → 33 ≤ length bs
+    → differ worked (take 32 (drop 1 bs)) ≡ lies digest bs
+unfolding lies namedIn
+lies-by digest bs w l = ap₂ differ w (slice-part 1 32 bs l)

@@ -3,7 +3,7 @@ use mathlib.Core.List.{List, _∷_, _++_}
 use Prim.Native.Nat.{ℕ}
 use lib.ListN.{length, getD}
 use Rattle.wire.specs.Numbers.{be, number}
-use Rattle.wire.specs.Slices.{part}
+use Rattle.wire.specs.Slices.{part, differ}
 
 -- ---- as it is made
 
@@ -32,3 +32,7 @@ statedIn bs = number (part 33 4 bs)
 -- the record of a leaf, of the stated length
 unfoldable pub recordIn : List ℕ → List ℕ
 recordIn bs = part 37 (statedIn bs) bs
+
+-- 0 where the digest that a leaf names is that of its record, else 1
+unfoldable pub lies : (List ℕ → List ℕ) → List ℕ → ℕ
+lies digest bs = differ (digest (recordIn bs)) (namedIn bs)
