@@ -1,5 +1,5 @@
--- What append and root answer, what a run of appends leaves, what is hashed, and what the code's own steps are called.
+-- What append and root answer, where they refuse too, what a run of appends leaves, and what is hashed.
 pub mod Outcome
+pub mod Refused
 pub mod Appends
 pub mod Hashed
-pub mod Steps

@@ -2,7 +2,7 @@
 ghost use mathlib.Core.Path.{_≡_};
 ghost use Rattle.digest.specs.Digest.{digestIn};
 ghost use Rattle.log.specs.Outcome.{appended, appendOutcome, rooted, rootOutcome};
-ghost use Rattle.log.specs.Steps.{refusedAppend, refusedRoot};
+ghost use Rattle.log.specs.Refused.{refusedAppend, refusedRoot};
 use digest::Digest;
 use shape::Counted;
 
