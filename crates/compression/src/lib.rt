@@ -1,2 +1,3 @@
 // The compression function of BLAKE3.
+#![tactic(auto)]
 pub mod compress;
