@@ -1,5 +1,5 @@
 -- A loop that stores word after word fills the list of the eight result words.
-use Rattle.std.proofs.Common.{◌-◌, refl}
+use Rattle.std.proofs.Common.{refl}
 use Rattle.compression.specs.Compression.{halved}
 use Rattle.words.proofs.Fill.{fills_none, fills_more, fills_all}
 use Rattle.compression.proofs.compress.halve.Goals as goal

@@ -17,15 +17,14 @@ four_from a b c d x y {a₁} {b₁} e0 e1 e2 e3 e4 e5 e6 e7 e8 e9 = cc (sum3 a b
 
 pub returns : goal.returns
 returns c =
-    let half = c in
     four_from _ _ _ _ _ _
-    half.wrapping_add_u32.ensures
-    half.wrapping_add_u32-a1.ensures
-    half.turn-d1.ensures
-    half.wrapping_add_u32-c1.ensures
-    half.turn-b1.ensures
-    c.wrapping_add_u32-2.ensures
-    c.wrapping_add_u32-a2.ensures
+    c.wrapping_add_u32.ensures.value
+    c.wrapping_add_u32-a1.ensures.value
+    c.turn-d1.ensures
+    c.wrapping_add_u32-c1.ensures.value
+    c.turn-b1.ensures
+    c.wrapping_add_u32-2.ensures.value
+    c.wrapping_add_u32-a2.ensures.value
     c.turn-d2.ensures
-    c.wrapping_add_u32-c2.ensures
+    c.wrapping_add_u32-c2.ensures.value
     c.turn-b2.ensures
