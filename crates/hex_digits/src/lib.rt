@@ -1,4 +1,6 @@
 // 32 bytes in hexadecimal, as a digest is printed.
+#![tactic(auto)]
+
 ghost use Rattle.std.specs.Prelude.{◌≡◌, ◌/◌, ◌%◌, ◌<◌};
 ghost use Rattle.hex_digits.specs.Hex.{digit_of, hex_of};
 

@@ -32,6 +32,7 @@ numbered (m if t ∷ later) = ltb 0 m && numbered later
 -- a computed test before two others, one of which follows from the other
 later : (b p q : Bool) → (T p → T q) → T (b && p) → T (b && q)
 later true p q f h = f h
+later false p q f h = elim h [ ]
 
 -- an order in two parts
 pub numbered_append : (xs ys : List Refusal) → T (numbered xs) → T (numbered ys) → T (numbered (xs ++ ys))
@@ -112,6 +113,7 @@ first_both m t xs ys h = verdict_both (λ k. k) m t xs ys 0 0 h
 -- a computed test of every entry, taken apart at the first
 both : (p q : Bool) → T (p && q) → (p ≡ true) × T q
 both true q h = (refl, h)
+both false q h = elim h [ ]
 
 -- the number 0 is that of no refusal
 pub clear : (order : List Refusal) → T (numbered order) → first_number order ≡ 0 → Passes order

@@ -1,5 +1,7 @@
 // Numbers as big-endian bytes, digests and runs of bytes in lent slices. Each public call has an answer for every input:
 // a byte past the end reads as 0, and a write that does not fit wholly changes nothing.
+#![tactic(auto)]
+
 ghost use Rattle.std.specs.Prelude.{◌≡◌, [], ◌∷◌, ◌≤◌, length, drop, get_or};
 ghost use Rattle.wire.specs.Numbers.{be, number};
 ghost use Rattle.wire.specs.Slices.{zeros, part, written, differ};
@@ -70,10 +72,10 @@ pub fn read_run(s: &[u8], at: usize, d: &mut [u8])
     let n = d.len();
     let m = rest.len();
     if n <= m {
-        bytes::copy(&rest[..n], d);
+        d.copy_from_slice(&rest[..n]);
         return;
     }
-    bytes::copy(rest, d);
+    d[..m].copy_from_slice(rest);
     clear(&mut d[m..]);
 }
 
@@ -167,7 +169,7 @@ pub fn write_run(d: &mut [u8], at: usize, s: &[u8])
     if d.len() - at < n {
         return;
     }
-    bytes::copy(s, &mut d[at..at + n]);
+    d[at..at + n].copy_from_slice(s);
 }
 
 // The low bytes of a number, over the whole of d.

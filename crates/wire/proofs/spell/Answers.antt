@@ -8,14 +8,7 @@ use native.Mathlib.Omega.{arith}
 use lib.ListN.{length, drop, set, length-set}
 use lib.Seq.{append_snoc, drop-cons, drop-length, drop-set-lt, get_or-set_same}
 use Rattle.wire.specs.Numbers.{be}
-use Rattle.wire.proofs.spell.Statement.{statement}
-use Rattle.wire.proofs.spell.Tie as tie
-
-abbrev invariant-loop : tie.invariant-loop
-invariant-loop d₀ n left₀ i₀ d left i = (i ≤ length d) × (length d ≡ length d₀) × (be i left ++ drop i d ≡ be (length d₀) n)
-
-abbrev decreases-loop : tie.decreases-loop
-decreases-loop d₀ n left₀ i₀ d left i = i
+use Rattle.wire.proofs.spell.Goals as goal
 
 one_more : (d : List ℕ) (n i : ℕ) → 0 < i → i ≤ length d
     → be (i - 1) (n / 256) ++ drop (i - 1) (set d (i - 1) (n % 256)) ≡ be i n ++ drop i d
@@ -27,29 +20,17 @@ one_more d n (suc i) h k =
     rw (e, drop-cons (set d i (n % 256)) i 0, get_or-set_same d i (n % 256) 0 k, drop-set-lt (suc i) d i (n % 256) (omega arith))
     (sym (append_snoc (be i (n / 256)) (n % 256) (drop (suc i) d)))
 
-loop-again : tie.Need-loop-preserved invariant-loop decreases-loop
-loop-again c =
-    let l = c.before.loop in
+pub loop-i-init : goal.loop-i-init
+loop-i-init c = (omega arith, refl, rw (drop-length, append-nil))
+
+pub loop-i-preserved : goal.loop-i-preserved
+loop-i-preserved c =
+    let l = c.loop-i in
     let e = one_more l.d l.left l.i (omega arith) (omega arith) in
     (simp length-set (omega arith), simp length-set l.invariant.1, e ∙ l.invariant.2)
 
-returns : tie.Need-returns invariant-loop decreases-loop
+pub returns : goal.returns
 unfolding be
 returns c =
-    let e : c.before.loop.i ≡ 0 = omega arith in
-    rw e at c.before.loop.invariant.2
-
-pub spell_spec : {M : Type 1} → statement M
-spell_spec =
-    tie.close
-    (tie.spec
-    invariant-loop
-    decreases-loop
-    (λ c. (omega arith, refl, rw (drop-length, append-nil)))
-    (λ c. omega arith)
-    (λ c. omega arith)
-    (λ c. omega arith)
-    (λ c. omega arith)
-    loop-again
-    (λ c. omega arith)
-    returns)
+    let e : c.loop-i.i ≡ 0 = omega arith in
+    rw e at c.loop-i.invariant.2
