@@ -4,19 +4,10 @@ use Prim.Native.Nat.{ℕ, ◌*◌, ◌%◌, ◌^◌, ◌≤◌}
 use native.Mathlib.Nat.{one-mul, mod-eq_of_lt}
 use native.Mathlib.Omega.{arith}
 use lib.Pow.{pow-lt, pow_mono}
-use borrow.Author.Rules.{rules}
-use Rattle.blake.proofs.tree.power.Statement.{statement}
-use Rattle.blake.proofs.tree.power.Tie as tie
+use Rattle.blake.proofs.tree.power.Goals as goal
 
-returns : tie.Need-returns
+pub returns : goal.returns
 returns c =
     let h = c.args.h in
     let e : (1 * 2 ^ h) % 2 ^ 64 ≡ 2 ^ h = ap (λ (x : ℕ). x % 2 ^ 64) (one-mul (2 ^ h)) ∙ mod-eq_of_lt (pow-lt {i = h} {j = 64} (omega arith)) in
     (e, subst⁻¹ (λ (x : ℕ). x ≤ 2 ^ 53) e (pow_mono {i = h} {j = 53} (omega arith)))
-
-pub power_spec : {M : Type 1} → statement M
-power_spec =
-    tie.close
-    (tie.spec
-    (λ c. search rules)
-    returns)
