@@ -1,4 +1,6 @@
 // What many records in one append are refused with, by numbers alone, before anything is written.
+#![tactic(auto)]
+
 ghost use Rattle.std.specs.Prelude.{◌≡◌, List, ℕ, ◌^◌, ◌≤◌};
 ghost use Rattle.order.specs.Order.{first_number};
 ghost use Rattle.batch_foresight.specs.Foresight.{one_order, or_else, foreseen, foresight};

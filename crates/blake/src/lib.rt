@@ -1,4 +1,6 @@
 // BLAKE3 with 32 bytes of output, plain or keyed: the hash of any slice, and of two digests.
+#![tactic(auto)]
+
 ghost use Rattle.std.specs.Prelude.{◌≡◌, ◌++◌};
 ghost use Rattle.blake.specs.Blake.{hash_in};
 ghost use Rattle.blake.specs.Modes.{words_in, flag_in};

@@ -1,2 +1,4 @@
 // The compression function of BLAKE3.
+#![tactic(auto)]
+
 pub mod compress;

@@ -1,5 +1,7 @@
 // The digest that every other crate relies on, by its stated promise alone. A mode is 36 bytes, as C lays out a number of 32 bits and a key of 32
 // bytes: number 0 is plain, and any other is keyed. It is lent, so that nothing is copied on the way down.
+#![tactic(auto)]
+
 ghost use Rattle.std.specs.Prelude.{◌≡◌, ◌++◌};
 ghost use Rattle.digest.specs.Digest.{digest_in};
 ghost use Rattle.digest.specs.Modes.{plain_mode, key_answer, number_in, key_in};

@@ -1,4 +1,6 @@
 // Records joined together, with a list of their lengths: whether there are as many lengths as there should be, and whether they add up.
+#![tactic(auto)]
+
 ghost use Rattle.std.specs.Prelude.{◌≡◌};
 ghost use Rattle.order.specs.Order.{first_number};
 ghost use Rattle.records.specs.Records.{sums_order};

@@ -17,6 +17,7 @@ use Rattle.shape.proofs.Counts.{count_near}
 
 both : (a b : Bool) → T (a && b) → T a × T b
 both true b t = (tt, t)
+both false b t = elim t [ ]
 
 -- equal lists, by a test of their elements
 abbrev same : {A : Type 0} → (A → A → Bool) → List A → List A → Bool
@@ -27,6 +28,8 @@ same test (x ∷ xs) (y ∷ ys) = test x y && same test xs ys
 
 same_is : {A : Type 0} (test : A → A → Bool) → ((x y : A) → T (test x y) → x ≡ y) → (xs ys : List A) → T (same test xs ys) → xs ≡ ys
 same_is test f [] [] t = refl
+same_is test f [] (y ∷ ys) t = elim t [ ]
+same_is test f (x ∷ xs) [] t = elim t [ ]
 same_is test f (x ∷ xs) (y ∷ ys) t =
     let u = both (test x y) (same test xs ys) t in
     ap₂ ◌∷◌ (f x y u.0) (same_is test f xs ys u.1)

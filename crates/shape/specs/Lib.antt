@@ -1,5 +1,5 @@
 -- Sizes and positions of a log; its folded tree; the letters of its leaves; M1 to M16. Over the digest everything holds for any function.
--- A name that ends in `In` is a recursion on a height that holds the leaves. The name without it takes the least such height.
+-- A name that ends in `_in` is a recursion on a height that holds the leaves. The name without it takes the least such height.
 pub mod Answers
 pub mod Sizes
 pub mod Nodes

@@ -1,4 +1,6 @@
 // Sizes, positions and leaf counts of a log of up to 2^32 leaves.
+#![tactic(auto)]
+
 ghost use Rattle.std.specs.Prelude.{◌≡◌, ℕ, ◌+◌, ◌%◌, ◌^◌, ◌≤◌, ◌<◌};
 ghost use Rattle.shape.specs.Answers.{sized, placed, counted};
 ghost use Rattle.shape.specs.Sizes.{size_of, size_answer, position_answer, count_answer, trailing_ones, height_of};

@@ -10,6 +10,7 @@ inside k (x ∷ xs) = ltb x k && inside k xs
 
 parts : (a b : Bool) → T (a && b) → T a × T b
 parts true b t = (tt, t)
+parts false b t = elim t [ ]
 
 -- what the test says of each entry
 inside_at : (k : ℕ) (xs : List ℕ) → T (inside k xs) → (i : ℕ) → i < length xs → get_or xs i 0 < k

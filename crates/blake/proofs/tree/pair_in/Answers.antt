@@ -1,0 +1,19 @@
+-- Two digests are one block of 64 bytes, and that is one compression: `Pair` has both laws.
+use mathlib.Core.Path.{ap, ap₂, ◌∙◌}
+use mathlib.Core.List.{List, ◌++◌}
+use Prim.Native.Nat.{ℕ, ◌+◌}
+use Rattle.compression.specs.Compression.{compressed}
+use Rattle.words.specs.Words.{bytes_of}
+use Rattle.blake.proofs.tree.Pair.{pair_digest}
+use Rattle.blake.proofs.tree.pair_in.Goals as goal
+
+pub returns : goal.returns
+returns c =
+    let k = c.args in
+    c.unload.ensures
+    ∙ ap bytes_of
+    (c.compress.ensures
+    ∙ ap (λ (m : List ℕ). compressed k.key m 0 64 (k.flag + 11))
+    (c.join-m.ensures
+    ∙ ap₂ (λ (x y : List ℕ). x ++ y) c.load_half.ensures c.load_half-2.ensures))
+    ∙ pair_digest k.key k.flag k.left k.right c.well_formed.1.1.0.1.0.1 c.well_formed.1.1.1.0.1.0.1

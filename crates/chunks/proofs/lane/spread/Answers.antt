@@ -1,0 +1,16 @@
+-- A loop that stores word after word fills four lanes with the same words.
+use mathlib.Core.Path.{refl}
+use Prim.Native.Nat.{◌-◌}
+use Rattle.chunks.specs.Lanes.{laned}
+use Rattle.words.proofs.Fill.{fills_none, fills_more, fills_all}
+use Rattle.chunks.proofs.lane.spread.Goals as goal
+
+pub loop-i-init : goal.loop-i-init
+loop-i-init c = fills_none refl
+
+pub loop-i-preserved : goal.loop-i-preserved
+loop-i-preserved c = fills_more c.loop-i-test.true refl c.loop-i.invariant
+
+pub returns : goal.returns
+unfolding laned
+returns c = fills_all c.loop-i-test.false c.loop-i.invariant
