@@ -11,9 +11,9 @@ use std::io::Result;
 
 // The verdict number in decimal, by the fewest digits, at the start of out; how many they are.
 fn verdict(input: &[u8], out: &mut [u8; 20]) -> usize
-    ensures prefix_len { IsPrefixLen result out.new }
-    ensures by_index { (whole : List ℕ) → input.now ≡ take 17501 whole → IsDigitCount 10 1 (judged_keyed whole) result }
-    ensures by_index_2 { (whole : List ℕ) → input.now ≡ take 17501 whole
+    ensures within { IsPrefixLen result out.new }
+    ensures count { (whole : List ℕ) → input.now ≡ take 17501 whole → IsDigitCount 10 1 (judged_keyed whole) result }
+    ensures digits { (whole : List ℕ) → input.now ≡ take 17501 whole
         → take result out.new ≡ last_digits 10 result (judged_keyed whole) }
 {
     io::decimal(letter_checker::judge_keyed(input) as u64, out)
