@@ -1,6 +1,5 @@
 -- `runs::given::fill` meets its contract: before each turn the bytes below j are the record's.
 use mathlib.Core.Path.{◌≡◌, refl, ap, sym, ◌∙◌}
-use Prim.Native.Nat.{◌-◌}
 use lib.ListN.{length, length-set}
 use lib.Seq.{take_all}
 use borrow.Author.Rules.{rules}

@@ -5,13 +5,14 @@ use native.Mathlib.Omega.{arith}
 use borrow.Author.Rules.{rules}
 use Rattle.runs.specs.Lines.{digits_in}
 use Rattle.runs.proofs.lines.Digits.{at_most, fewest_counted}
+use Rattle.runs.proofs.lines.say_number.Given as given
 use Rattle.runs.proofs.lines.say_number.Goals as goal
 
 -- they are at most 20
-few : (g : goal.Over) (c : goal.After-say-2 g) → c.decimal-k.result ≤ 20
+few : (g : given.Over) (c : goal.After-say-2 g) → c.decimal-k.result ≤ 20
 few g c =
     let d = c.decimal-k in
-    at_most c.args.n d.result (search rules) d.ensures.1.0
+    at_most c.args.n d.result (search rules) d.ensures.len
 
 pub overflow_add-result : goal.overflow_add-result
 overflow_add-result g c = let l = few g c in search rules
@@ -20,5 +21,5 @@ pub returns : goal.returns
 returns g c =
     let d = c.decimal-k in
     let n = c.args.n in
-    let e : d.result ≡ digits_in n = fewest_counted 20 n d.result d.ensures.1.0 (few g c) in
+    let e : d.result ≡ digits_in n = fewest_counted 20 n d.result d.ensures.len (few g c) in
     omega arith
