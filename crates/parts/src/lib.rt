@@ -1,4 +1,6 @@
 // The digest of input that arrives in parts: `begin` in a mode, `add` for each part, `end` whenever the digest is wanted. 17 is the one refusal.
+#![tactic(auto)]
+
 ghost use Rattle.std.specs.Prelude.{◌≡◌};
 ghost use Rattle.parts.specs.Answers.{begin_outcome, add_outcome, end_outcome};
 

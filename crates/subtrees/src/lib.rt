@@ -1,4 +1,6 @@
 // The stack of finished subtrees: eight words each, the oldest first, at most thirty. What has no place on it changes nothing.
+#![tactic(auto)]
+
 ghost use Rattle.std.specs.Prelude.{◌≡◌, ◌*◌, ◌<◌, ◌≤◌, length, take, drop};
 ghost use Rattle.std.proofs.Math.Seq.{paste};
 ghost use Rattle.parts_rule.specs.Subtrees.{folded};
