@@ -1,6 +1,9 @@
 # What is built already, and what builds it once: whether a program is newer than its sources, and the lock around what builds.
 # Wants top, the repository.
-# shellcheck shell=sh disable=SC2154
+# shellcheck shell=sh disable=SC2034,SC2154
+
+# what a program or an archive of the crates is proved and built from, as names in the repository and, behind them, what find leaves out
+proved_sources='crates crates.txt -name must-fail -prune -o -name out -prune -o'
 
 # sum_of SOURCE..: the time, and behind it one sum over the sources, files and folders of the repository, wherever it lies
 sum_of() {

@@ -26,12 +26,12 @@ make_work() {
     trap 'rm -rf "$work"' EXIT
 }
 
-# find_kit: the kit, and its tools for this machine
+# find_kit: the kit, and its tools
 find_kit() {
     command -v rt >/dev/null 2>&1 || die "no rt: Rattle's kit is not installed, and something has to be proved and built"
     guide=$(rt doc) || die "rt does not name its guide"
-    kit=$(dirname "$(dirname "$guide")")
-    tools=$kit/on/$machine/toolchain
+    kit=$(dirname "$guide")
+    tools=$kit/toolchain
 }
 
 # need_command COMMAND PACKAGE..: names the packages where the command is missing. Nothing is installed: only bin/match and .ci/run do that.
@@ -46,12 +46,15 @@ demand_cc() {
     [ -z "${CC-}" ] || command -v "${CC%% *}" >/dev/null 2>&1 || die "CC is ${CC%% *}, and there is no such command"
 }
 
-# rt_libraries CRATE..: proves the crates where that is not done, and writes their archives, one after the other: two at once would read each other's
-# results of the crates that both see, half written
+# rt_libraries CRATE..: proves the crates where that is not done, and writes their archives, one after the other: each sees most of what those before it
+# see. An archive is written into the crate's own folder out, and is copied into target/staticlib.
 rt_libraries() {
     say "proving and building the library $1, which takes some minutes the first time"
-    (cd "$top" && rt check "$@" && printf '%s\n' "$@" | xargs -n 1 rt staticlib) >"$work/rt.log" 2>&1 </dev/null ||
-        { cat "$work/rt.log" >&2; die "$1 was not built"; }
+    mkdir -p "$top/target/staticlib"
+    for crate; do
+        (cd "$top/crates/$crate" && rt lib) >"$work/rt.log" 2>&1 </dev/null || { cat "$work/rt.log" >&2; die "$crate was not built"; }
+        cp "$top/crates/$crate/out/lib$crate.a" "$top/target/staticlib/lib$crate.a" || die "cannot copy the library $crate"
+    done
 }
 
 # join_library CRATE: puts the object of that crate into the archive too. An archive exports the calls of its own crate alone, and what its object has
@@ -66,8 +69,10 @@ library_parts='stored_c letter_c parts_c passage_c'
 # static_library CRATE: the archive of that crate, and for the keeper the calls of those beside it. Wants shell/built.sh and its lock, and the kit.
 static_library() {
     archive=$top/target/staticlib/lib$1.a
-    ! is_built "target/staticlib/lib$1.a" crates crates.txt -name must-fail -prune -o || return 0
-    library_sum=$(sum_of crates crates.txt -name must-fail -prune -o)
+    # shellcheck disable=SC2086
+    ! is_built "target/staticlib/lib$1.a" $proved_sources || return 0
+    # shellcheck disable=SC2086
+    library_sum=$(sum_of $proved_sources)
     if [ "$1" = keeper ]; then
         # shellcheck disable=SC2086
         rt_libraries keeper $library_parts

@@ -6,19 +6,31 @@ run=$top/target/run
 say() { echo "${0##*/}: $*" >&2; }
 die() { say "$*"; exit 2; }
 
-# build NAME: proves and builds a program where that is not done; ends the script with status 2 where that fails
+# keep_program NAME SUM: what rt has just proved and built of that program into its crate's folder, from sources of that sum, is the one that is run
+keep_program() {
+    mkdir -p "$top/target/bin"
+    cp "$top/crates/$1/out/$1" "$top/target/bin/$1.new" || die "$1 was not built"
+    mv "$top/target/bin/$1.new" "$top/target/bin/$1"
+    was_built "target/bin/$1" "$2"
+}
+
+# build NAME: proves and builds a program where that is not done; ends the script with status 2 where that fails. What builds it runs it too, on no input:
+# each of our programs ends there with status 0.
 build() {
     program=$top/target/bin/$1
-    ! is_built "target/bin/$1" crates crates.txt -name must-fail -prune -o || return 0
+    # shellcheck disable=SC2086
+    ! is_built "target/bin/$1" $proved_sources || return 0
     . "$top/shell/common.sh"
     find_kit
     one_at_a_time
-    ! is_built "target/bin/$1" crates crates.txt -name must-fail -prune -o || return 0
+    # shellcheck disable=SC2086
+    ! is_built "target/bin/$1" $proved_sources || return 0
     make_work
-    sum=$(sum_of crates crates.txt -name must-fail -prune -o)
+    # shellcheck disable=SC2086
+    sum=$(sum_of $proved_sources)
     say "proving and building $1, which takes some minutes the first time"
-    (cd "$top" && rt check "$1") >"$work/rt.log" 2>&1 </dev/null || { cat "$work/rt.log" >&2; die "$1 was not built"; }
+    (cd "$top/crates/$1" && rt run) >"$work/rt.log" 2>&1 </dev/null || { cat "$work/rt.log" >&2; die "$1 was not built"; }
     copy_runner
-    was_built "target/bin/$1" "$sum"
+    keep_program "$1" "$sum"
     exec 9<&-
 }

@@ -31,7 +31,10 @@ class Scripts(HostTest):
         keep = ("bin", "shell", "hosts", "include", "crates", "crates.txt", "outside", "VERSION", "man", "completion", "Makefile")
         cls.copy.mkdir()
         for name in keep:
-            (shutil.copytree if (TOP / name).is_dir() else shutil.copy2)(TOP / name, cls.copy / name)
+            if (TOP / name).is_dir():
+                shutil.copytree(TOP / name, cls.copy / name, ignore=shutil.ignore_patterns("out"))
+            else:
+                shutil.copy2(TOP / name, cls.copy / name)
         (cls.copy / "target").mkdir()
         for name in ("hosts", "bin", "run", "staticlib"):
             shutil.copytree(TOP / "target" / name, cls.copy / "target" / name)
@@ -119,16 +122,16 @@ class Scripts(HostTest):
             file.write("# a change\n")
         tools = self.folder / "stand-ins"
         tools.mkdir()
-        (tools / "rt").write_text(f'#!/bin/sh\n[ "$1" != doc ] || {{ echo "{self.folder}/kit/docs/guide"; exit; }}\n'
-                                  f'mkdir "{self.folder}/busy" || echo twice >>"{self.folder}/ran"\necho "$@" >>"{self.folder}/ran"\nsleep 0.5\n'
-                                  f'rmdir "{self.folder}/busy"\n')
+        (tools / "rt").write_text(f'#!/bin/sh\n[ "$1" != doc ] || {{ echo "{self.folder}/kit/guide"; exit; }}\n'
+                                  f'mkdir "{self.folder}/busy" || echo twice >>"{self.folder}/ran"\necho "${{PWD##*/}}: $@" >>"{self.folder}/ran"\nsleep 0.5\n'
+                                  f'mkdir -p out\ncp ../../target/bin/panel out/panel\nrmdir "{self.folder}/busy"\n')
         (tools / "rt").chmod(0o755)
         settings = {**PLAIN, "PATH": f"{tools}:{PLAIN['PATH']}"}
         runs = [subprocess.Popen([copy / "bin" / "panel"], stdin=subprocess.DEVNULL, stdout=subprocess.PIPE, stderr=subprocess.PIPE, env=settings) for _ in range(12)]
         for ran in runs:
             out, err = ran.communicate()
             self.assertEqual((ran.returncode, out), (0, b"12\n"), err)
-        self.assertEqual((self.folder / "ran").read_text(), "check panel\n")
+        self.assertEqual((self.folder / "ran").read_text(), "panel: run\n")
 
     def test_closed_streams(self):
         """Closed standard streams of the scripts: the log has the record or nothing, and a verdict that could not be written is status 2."""
@@ -179,14 +182,15 @@ class Scripts(HostTest):
         (copy / "target" / "bin" / "panel.sources").unlink()
         tools = self.folder / "stand-ins"
         tools.mkdir()
-        (tools / "rt").write_text(f'#!/bin/sh\n[ "$1" != doc ] || {{ echo "{self.folder}/kit/docs/guide"; exit; }}\necho "$@" >>"{self.folder}/ran"\n'
+        (tools / "rt").write_text(f'#!/bin/sh\n[ "$1" != doc ] || {{ echo "{self.folder}/kit/guide"; exit; }}\necho "${{PWD##*/}}: $@" >>"{self.folder}/ran"\n'
+                                  f'mkdir -p out\ncp ../../target/bin/panel out/panel\n'
                                   f'[ -e "{self.folder}/edited" ] || echo "# an edit" >>"{copy}/crates.txt"\n: >"{self.folder}/edited"\nsleep 0.2\n')
         (tools / "rt").chmod(0o755)
         for builds in (1, 2, 2):
             ran = subprocess.run([copy / "bin" / "panel"], stdin=subprocess.DEVNULL, capture_output=True, check=False,
                                  env={**PLAIN, "PATH": f"{tools}:{PLAIN['PATH']}"})
             self.assertEqual((ran.returncode, ran.stdout), (0, b"12\n"), ran.stderr)
-            self.assertEqual((self.folder / "ran").read_text(), builds * "check panel\n")
+            self.assertEqual((self.folder / "ran").read_text(), builds * "panel: run\n")
 
 
 @unittest.skipIf(CHECKED, "tried once, without sanitizers")

@@ -33,6 +33,7 @@ fn one_less(size: u64) -> usize {
 
 // The line of a batch of the first k records, which have so many bytes.
 fn append_first(
+    rt: &impl Print,
     mode: &[u8; 36],
     size: u64,
     k: usize,
@@ -43,6 +44,7 @@ fn append_first(
     let records = record_of(0);
     let lengths = forty();
     try_batch(
+        rt,
         mode,
         size,
         front(&records, bytes as usize),
@@ -53,22 +55,22 @@ fn append_first(
 }
 
 // The first k to an empty log; the first seven behind them; then all forty where the last byte for k is missing.
-fn show_list(mode: &[u8; 36], k: usize, bytes: u64) {
+fn show_list(rt: &impl Print, mode: &[u8; 36], k: usize, bytes: u64) {
     let mut nodes = [60u8; 2848];
-    let size = append_first(mode, 0, k, bytes, &mut nodes, 2848);
-    append_first(mode, size, 7, SEVEN, &mut nodes, 2848);
+    let size = append_first(rt, mode, 0, k, bytes, &mut nodes, 2848);
+    append_first(rt, mode, size, 7, SEVEN, &mut nodes, 2848);
     let mut other = [60u8; 2848];
-    append_first(mode, 0, 40, FORTY, &mut other, one_less(size));
+    append_first(rt, mode, 0, 40, FORTY, &mut other, one_less(size));
 }
 
 // Each k from 0 to 40.
-pub(crate) fn show_all(mode: &[u8; 36]) {
+pub(crate) fn show_all(rt: &impl Print, mode: &[u8; 36]) {
     let lengths = forty();
     let mut bytes: u64 = 0;
     for k in 0..40 {
-        show_list(mode, k, bytes);
+        show_list(rt, mode, k, bytes);
         let next = std::num::wrapping_add_u64(bytes, lengths[k] as u64);
         bytes = next;
     }
-    show_list(mode, 40, bytes);
+    show_list(rt, mode, 40, bytes);
 }

@@ -1,4 +1,6 @@
 // Two lists of inputs compared from the root down, and then two records: what is found, and the pair that differs.
+#![tactic(auto)]
+
 ghost use Rattle.std.specs.Prelude.{◌≡◌};
 ghost use Rattle.difference.specs.Outcome.{found, finding_number, compare_outcome};
 ghost use Rattle.difference.specs.declared.Finding.TheVariants.{Nothing};

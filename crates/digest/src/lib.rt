@@ -7,7 +7,7 @@ ghost use Rattle.digest.specs.Digest.{digest_in};
 ghost use Rattle.digest.specs.Modes.{plain_mode, key_answer, number_in, key_in};
 
 // A digest, by value.
-#[derive(Drop)]
+#[derive(Clone, Copy)]
 pub struct Digest {
     pub bytes: [u8; 32],
 }

@@ -1,10 +1,12 @@
 // The digest of standard input, of any length up to 2^40 bytes, in hexadecimal. There is no heap: the input is read in parts of 65,536 bytes.
+#![tactic(auto)]
+
 ghost use Rattle.std.specs.Prelude.{◌≡◌, length};
 ghost use Rattle.hex_digits.specs.Hex.{hex_of};
 ghost use Rattle.parts.specs.Answers.{end_outcome};
 
-use libc::{STDERR_FILENO, STDIN_FILENO, STDOUT_FILENO};
 use parts::{Added, Parts};
+use std::io::{Read, Result};
 
 // The digest of what a state holds, in hexadecimal.
 fn digits(state: Parts) -> [u8; 64]
@@ -17,19 +19,19 @@ fn digits(state: Parts) -> [u8; 64]
 }
 
 // The line that is written for a state.
-fn show(state: Parts) {
-    io::write_all(STDOUT_FILENO, &digits(state));
-    io::write_all(STDOUT_FILENO, b"\n");
+fn show(rt: &impl Print, state: Parts) -> Result<()> {
+    rt.write_all(&digits(state))?;
+    rt.write_all(b"\n")
 }
 
 // Reads one byte more: whether the input has ended, with a line for the user where it cannot be read.
-fn ended() -> bool {
+fn ended(stderr: &impl Print, stdin: &mut impl Read) -> Result<bool> {
     let mut next = [0u8; 1];
-    if libc::read(STDIN_FILENO, &mut next) == 0 {
-        return true;
+    if let Ok(0) = stdin.read(&mut next) {
+        return Ok(true);
     }
-    io::write_all(STDERR_FILENO, b"digest_input: the input cannot be read\n");
-    false
+    stderr.write_all(b"digest_input: the input cannot be read\n")?;
+    Ok(false)
 }
 
 // The one buffer, of 65,536 bytes.
@@ -40,12 +42,12 @@ fn buffer() -> [u8; 65536]
 }
 
 // Standard input, taken part after part, up to the first that is not whole; 17 where there is too much of it. 2^24 parts are 2^40 bytes.
-fn taken() -> Added {
+fn taken(stdin: &mut impl Read) -> Added {
     let mode = digest::plain();
     let mut state = parts::begin(&mode);
     let mut buf = buffer();
     for turn in 0..16777217u32 {
-        let n = io::read_full(STDIN_FILENO, &mut buf);
+        let n = streams::read_full(stdin, &mut buf);
         let a = parts::add(state, &buf[..n]);
         if a.number != 0 {
             return a;
@@ -59,17 +61,17 @@ fn taken() -> Added {
     Added { number: 17, state }
 }
 
-fn main() {
-    let a = taken();
+fn main(rt: HostRuntime) -> Result<()> {
+    let mut stdin = rt.stdin();
+    let a = taken(&mut stdin);
     if a.number != 0 {
-        io::write_all(
-            STDERR_FILENO,
+        return rt.stderr().write_all(
             b"digest_input: the input has more than 1099511627776 bytes\n",
         );
-        return;
     }
-    if ended() {
+    if ended(&rt.stderr(), &mut stdin)? {
         let state = a.state;
-        show(state);
+        show(&rt, state)?;
     }
+    Ok(())
 }

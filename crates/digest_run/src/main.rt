@@ -1,4 +1,6 @@
 // Digests at the edges of blocks, chunks and trees, and of pairs of digests, to be compared with the second program's.
+#![tactic(auto)]
+
 use digest::Digest;
 use runs::given;
 use runs::lines::{end_line, say_digest, say_hex, say_number};
@@ -7,42 +9,42 @@ use runs::lines::{end_line, say_digest, say_hex, say_number};
 const LENGTHS: [usize; 10] = [0, 1, 63, 64, 65, 1023, 1024, 1025, 2048, 2049];
 
 // The line of the first n bytes of bytes.
-fn show_first(bytes: &[u8; 2049], n: usize) {
-    say_number(b"", n as u64);
-    say_digest(b" ", given::front(bytes, n));
-    end_line();
+fn show_first(rt: &impl Print, bytes: &[u8; 2049], n: usize) {
+    say_number(rt, b"", n as u64);
+    say_digest(rt, b" ", given::front(bytes, n));
+    end_line(rt);
 }
 
 // A line for each length.
-fn show_lengths(bytes: &[u8; 2049]) {
+fn show_lengths(rt: &impl Print, bytes: &[u8; 2049]) {
     let lengths = LENGTHS;
     for i in 0..10 {
-        show_first(bytes, lengths[i]);
+        show_first(rt, bytes, lengths[i]);
     }
 }
 
 // The line of two digests, after its label.
-fn show_pair(label: &[u8], left: Digest, right: Digest) {
+fn show_pair(rt: &impl Print, label: &[u8], left: Digest, right: Digest) {
     let mode = digest::plain();
     let d = digest::digest_of_pair(&mode, left, right);
     let bytes = d.bytes;
-    say_hex(label, bytes);
-    end_line();
+    say_hex(rt, label, bytes);
+    end_line(rt);
 }
 
 // A line for each pair of the digests of no byte and of the byte 0.
-fn show_pairs() {
+fn show_pairs(rt: &impl Print) {
     let mode = digest::plain();
     let none = digest::digest_of(&mode, b"");
     let one = digest::digest_of(&mode, b"\0");
-    show_pair(b"pair 0 1 ", none, one);
-    show_pair(b"pair 1 0 ", one, none);
-    show_pair(b"pair 1 1 ", one, one);
+    show_pair(rt, b"pair 0 1 ", none, one);
+    show_pair(rt, b"pair 1 0 ", one, none);
+    show_pair(rt, b"pair 1 1 ", one, one);
 }
 
-fn main() {
+fn main(rt: HostRuntime) {
     let mut bytes = [0u8; 2049];
     given::fill(0, &mut bytes);
-    show_lengths(&bytes);
-    show_pairs();
+    show_lengths(&rt, &bytes);
+    show_pairs(&rt);
 }

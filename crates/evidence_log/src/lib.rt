@@ -1,4 +1,6 @@
 // A log's nodes in a lent buffer: append and root.
+#![tactic(auto)]
+
 ghost use Rattle.std.specs.Prelude.{◌≡◌};
 ghost use Rattle.digest.specs.Digest.{digest_in};
 ghost use Rattle.evidence_log.specs.Outcome.{appended, append_outcome, rooted, root_outcome};

@@ -36,6 +36,7 @@ fn restated(named: u64, index: u64, stated: u64, at: usize) -> [u8; 400] {
 // and the length of the log's own record; the size, the index and the record length that the letter states, its length, and the byte of it that is
 // flipped; how much of the two buffers is lent. 999: no byte is flipped.
 fn try_call(
+    rt: &impl Print,
     size: u64,
     lent: u64,
     spoilt: u64,
@@ -51,12 +52,13 @@ fn try_call(
 ) {
     let ours = [size, lent, spoilt, number, length];
     let theirs = [named, index, stated, extent, flipped, one, two];
-    say_numbers(b"find", &ours);
-    say_numbers(b"", &theirs);
+    say_numbers(rt, b"find", &ours);
+    say_numbers(rt, b"", &theirs);
     let given = damaged(spoilt as usize);
     let rec = record_of(number as usize);
     let shown = restated(named, index, stated, flipped as usize);
     show_find(
+        rt,
         size,
         front(&given, lent as usize),
         front(&rec, length as usize),
@@ -67,29 +69,29 @@ fn try_call(
 }
 
 // Done, then by 1, 10, 4, 7 (under 20), 8, 5.
-fn try_logs() {
-    try_call(11, 352, 999, 3, 200, 11, 3, 200, 316, 999, 64, 64);
-    try_call(2, 352, 999, 3, 200, 11, 3, 200, 316, 999, 80, 80);
-    try_call(0, 352, 999, 3, 200, 11, 3, 200, 316, 999, 80, 80);
-    try_call(11, 351, 999, 3, 200, 11, 3, 200, 316, 999, 80, 80);
-    try_call(11, 352, 999, 3, 200, 11, 3, 200, 19, 999, 80, 80);
-    try_call(11, 352, 999, 3, 200, 4, 3, 200, 316, 999, 80, 80);
-    try_call(11, 352, 999, 3, 200, 11, 7, 200, 316, 999, 80, 80);
+fn try_logs(rt: &impl Print) {
+    try_call(rt, 11, 352, 999, 3, 200, 11, 3, 200, 316, 999, 64, 64);
+    try_call(rt, 2, 352, 999, 3, 200, 11, 3, 200, 316, 999, 80, 80);
+    try_call(rt, 0, 352, 999, 3, 200, 11, 3, 200, 316, 999, 80, 80);
+    try_call(rt, 11, 351, 999, 3, 200, 11, 3, 200, 316, 999, 80, 80);
+    try_call(rt, 11, 352, 999, 3, 200, 11, 3, 200, 19, 999, 80, 80);
+    try_call(rt, 11, 352, 999, 3, 200, 4, 3, 200, 316, 999, 80, 80);
+    try_call(rt, 11, 352, 999, 3, 200, 11, 7, 200, 316, 999, 80, 80);
 }
 
 // By 3, 7 (exact), 9, then 3 and 13 for the log's own record, 14, 6 for each buffer.
-fn try_letters() {
-    try_call(11, 352, 999, 3, 200, 11, 3, 16385, 316, 999, 80, 80);
-    try_call(11, 352, 999, 3, 200, 11, 3, 200, 315, 999, 80, 80);
-    try_call(11, 352, 999, 3, 200, 11, 3, 200, 316, 20, 80, 80);
-    try_call(11, 352, 999, 3, 16385, 11, 3, 200, 316, 999, 80, 80);
-    try_call(11, 352, 999, 2, 200, 11, 3, 200, 316, 999, 80, 80);
-    try_call(11, 352, 160, 3, 200, 11, 3, 200, 316, 999, 80, 80);
-    try_call(11, 352, 999, 3, 200, 11, 3, 200, 316, 999, 63, 64);
-    try_call(11, 352, 999, 3, 200, 11, 3, 200, 316, 999, 64, 63);
+fn try_letters(rt: &impl Print) {
+    try_call(rt, 11, 352, 999, 3, 200, 11, 3, 16385, 316, 999, 80, 80);
+    try_call(rt, 11, 352, 999, 3, 200, 11, 3, 200, 315, 999, 80, 80);
+    try_call(rt, 11, 352, 999, 3, 200, 11, 3, 200, 316, 20, 80, 80);
+    try_call(rt, 11, 352, 999, 3, 16385, 11, 3, 200, 316, 999, 80, 80);
+    try_call(rt, 11, 352, 999, 2, 200, 11, 3, 200, 316, 999, 80, 80);
+    try_call(rt, 11, 352, 160, 3, 200, 11, 3, 200, 316, 999, 80, 80);
+    try_call(rt, 11, 352, 999, 3, 200, 11, 3, 200, 316, 999, 63, 64);
+    try_call(rt, 11, 352, 999, 3, 200, 11, 3, 200, 316, 999, 64, 63);
 }
 
-pub(crate) fn show_all() {
-    try_logs();
-    try_letters();
+pub(crate) fn show_all(rt: &impl Print) {
+    try_logs(rt);
+    try_letters(rt);
 }

@@ -4,13 +4,14 @@ use runs::given::{front, length_of, record_of};
 use runs::lines::say_numbers;
 
 // The line of one letter.
-fn show_line(leaves: usize, size: u64, index: usize, nodes: &[u8; 512]) {
+fn show_line(rt: &impl Print, leaves: usize, size: u64, index: usize, nodes: &[u8; 512]) {
     let numbers = [leaves as u64, index as u64];
-    say_numbers(b"letter", &numbers);
+    say_numbers(rt, b"letter", &numbers);
     let mut letter = [0u8; 16640];
     let n = letter_of(size, index, nodes, &mut letter);
     let rec = record_of(index);
     show_find(
+        rt,
         size,
         nodes,
         front(&rec, length_of(index)),
@@ -21,18 +22,18 @@ fn show_line(leaves: usize, size: u64, index: usize, nodes: &[u8; 512]) {
 }
 
 // The lines of a log.
-fn show_log(leaves: usize, size: u64, nodes: &[u8; 512]) {
+fn show_log(rt: &impl Print, leaves: usize, size: u64, nodes: &[u8; 512]) {
     for index in 0..leaves {
-        show_line(leaves, size, index, nodes);
+        show_line(rt, leaves, size, index, nodes);
     }
 }
 
-pub(crate) fn show_all() {
+pub(crate) fn show_all(rt: &impl Print) {
     let mut nodes = [0u8; 512];
     let mut size: u64 = 0;
     for k in 0..9 {
         let next = grow(size, k, &mut nodes);
         size = next;
-        show_log(k + 1, size, &nodes);
+        show_log(rt, k + 1, size, &nodes);
     }
 }

@@ -62,10 +62,10 @@ fn number_of(finding: Finding) -> u64 {
 }
 
 // The number, and what is found.
-pub(crate) fn show_found(f: Found) {
+pub(crate) fn show_found(rt: &impl Print, f: Found) {
     let finding = f.finding;
     let numbers = [f.number as u64, number_of(finding)];
-    say_numbers(b":", &numbers);
+    say_numbers(rt, b":", &numbers);
 }
 
 // 1 where buffer i has changed since it was made, else 0.
@@ -75,13 +75,21 @@ fn changed(bytes: &[u8; 80], i: usize) -> u64 {
 }
 
 // Whether each of the two buffers has changed.
-fn show_changes(first: &[u8; 80], second: &[u8; 80]) {
+fn show_changes(rt: &impl Print, first: &[u8; 80], second: &[u8; 80]) {
     let changes = [changed(first, 5), changed(second, 6)];
-    say_numbers(b" differ", &changes);
+    say_numbers(rt, b" differ", &changes);
 }
 
 // What the finder makes of a letter, with parts of two buffers.
-pub(crate) fn show_find(size: u64, nodes: &[u8], rec: &[u8], letter: &[u8], one: u64, two: u64) {
+pub(crate) fn show_find(
+    rt: &impl Print,
+    size: u64,
+    nodes: &[u8],
+    rec: &[u8],
+    letter: &[u8],
+    one: u64,
+    two: u64,
+) {
     let mode = digest::plain();
     let mut first = buffer_of(5);
     let mut second = buffer_of(6);
@@ -96,7 +104,7 @@ pub(crate) fn show_find(size: u64, nodes: &[u8], rec: &[u8], letter: &[u8], one:
         &mut first[..room],
         &mut second[..other_room],
     );
-    show_found(f);
-    show_changes(&first, &second);
-    end_line();
+    show_found(rt, f);
+    show_changes(rt, &first, &second);
+    end_line(rt);
 }

@@ -1,4 +1,6 @@
 // The answer of a finder of many records: as one of a single record gives it, and with the index of the first two records that differ.
+#![tactic(auto)]
+
 ghost use Rattle.std.specs.Prelude.{◌≡◌};
 ghost use Rattle.difference.specs.declared.Finding.TheVariants.{Nothing};
 ghost use Rattle.inputs.specs.Inputs.{told};

@@ -1,4 +1,6 @@
 // Inputs side by side, and the first two that differ.
+#![tactic(auto)]
+
 ghost use Rattle.std.specs.Prelude.{◌≡◌, ◌*◌, ◌^◌, ◌≤◌};
 ghost use Rattle.wire.specs.Slices.{part, differ};
 ghost use Rattle.shape.specs.Difference.{agree};
@@ -8,7 +10,7 @@ ghost use Rattle.inputs.specs.Inputs.{bytes_of, told, above};
 use digest::Digest;
 
 // What is hashed at a place: two digests, left then right, 64 bytes.
-#[derive(Drop)]
+#[derive(Clone, Copy)]
 pub struct Input {
     pub left: Digest,
     pub right: Digest,

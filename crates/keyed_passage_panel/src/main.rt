@@ -1,34 +1,36 @@
 // The program that panels run for a passage of a keyed log: the key (32 bytes), trusted size (8, big-endian), root (32) and one passage letter from
 // standard input, the verdict number in decimal and a newline to standard output. It reads at most 4,459,603 bytes, since a longer letter gets the same
 // number.
+#![tactic(auto)]
+
 ghost use Rattle.std.specs.Prelude.{◌≡◌, List, ℕ, take};
 ghost use Rattle.io.specs.Counts.{IsPrefixLen};
 ghost use Rattle.io.specs.Digits.{last_digits, IsDigitCount};
 ghost use Rattle.passage_checker.specs.Outcome.{judged_keyed};
 
-use libc::{STDIN_FILENO, STDOUT_FILENO};
+use std::io::{Read, Result};
 
 // The verdict number in decimal, by the fewest digits, at the start of out; how many they are.
 fn verdict(input: &[u8], out: &mut [u8; 20]) -> usize
-    ensures prefix_len { IsPrefixLen result out.new }
-    ensures by_index { (whole : List ℕ) → input.now ≡ take 4459603 whole → IsDigitCount 10 1 (judged_keyed whole) result }
-    ensures by_index_2 { (whole : List ℕ) → input.now ≡ take 4459603 whole
+    ensures within { IsPrefixLen result out.new }
+    ensures count { (whole : List ℕ) → input.now ≡ take 4459603 whole → IsDigitCount 10 1 (judged_keyed whole) result }
+    ensures digits { (whole : List ℕ) → input.now ≡ take 4459603 whole
         → take result out.new ≡ last_digits 10 result (judged_keyed whole) }
 {
     io::decimal(passage_checker::judge_keyed(input) as u64, out)
 }
 
 // Fills a buffer from standard input, and writes the verdict on what was read.
-fn answer(input: &mut [u8]) {
-    let n = io::read_full(STDIN_FILENO, input);
+fn answer(rt: &impl Print, stdin: &mut impl Read, input: &mut [u8]) -> Result<()> {
+    let n = streams::read_full(stdin, input);
     let mut text = [0u8; 20];
     let k = verdict(&input[..n], &mut text);
-    io::write_all(STDOUT_FILENO, &text[..k]);
-    io::write_all(STDOUT_FILENO, b"\n");
+    rt.write_all(&text[..k])?;
+    rt.write_all(b"\n")
 }
 
 // The one buffer, which is lent and never copied: more than the longest letter, with key, size and root before it.
-fn main() {
+fn main(rt: HostRuntime) -> Result<()> {
     let mut input = [0u8; 4459603];
-    answer(&mut input);
+    answer(&rt, &mut rt.stdin(), &mut input)
 }

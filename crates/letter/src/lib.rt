@@ -1,4 +1,6 @@
 // What a proof letter is: taken apart, its items counted, and its record held to the leaf.
+#![tactic(auto)]
+
 ghost use Rattle.std.specs.Prelude.{◌≡◌};
 ghost use Rattle.letter.specs.Checking.{taken_apart, fields_refused, behind_outcome, fields_outcome};
 

@@ -1,4 +1,6 @@
 // A letter compared with the log's own nodes, from the root down.
+#![tactic(auto)]
+
 ghost use Rattle.std.specs.Prelude.{◌≡◌};
 ghost use Rattle.digest.specs.Digest.{digest_in};
 ghost use Rattle.difference.specs.Outcome.{found};

@@ -1,4 +1,6 @@
 // The items of an index, read from a log's nodes.
+#![tactic(auto)]
+
 ghost use Rattle.std.specs.Prelude.{◌≡◌, map, suc, ◌+◌, ◌*◌, ◌^◌, ◌≤◌, ◌<◌, length};
 ghost use Rattle.digest.specs.Digest.{digest_in};
 ghost use Rattle.wire.specs.Slices.{splice, written, joined};

@@ -1,4 +1,6 @@
 // The root worked out from an index, a record and items.
+#![tactic(auto)]
+
 ghost use Rattle.std.specs.Prelude.{◌≡◌, ◌++◌, ◌+◌, ◌*◌, ◌≤◌, length};
 ghost use Rattle.wire.specs.Slices.{part, rows_from};
 ghost use Rattle.digest.specs.Digest.{digest_in};

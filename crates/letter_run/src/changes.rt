@@ -16,24 +16,25 @@ fn count(counts: &mut [u64; 16], number: u32) {
 }
 
 // The line of a number that was met so often.
-fn show_count(number: usize, times: u64) {
+fn show_count(rt: &impl Print, number: usize, times: u64) {
     if 0 < times {
-        say_number(b"  ", number as u64);
-        say_number(b": ", times);
-        end_line();
+        say_number(rt, b"  ", number as u64);
+        say_number(rt, b": ", times);
+        end_line(rt);
     }
 }
 
 // A line for each number that was met.
-fn show_counts(label: &[u8], counts: &[u64; 16]) {
-    say(label);
+fn show_counts(rt: &impl Print, label: &[u8], counts: &[u64; 16]) {
+    say(rt, label);
     for i in 0..16 {
-        show_count(i, counts[i]);
+        show_count(rt, i, counts[i]);
     }
 }
 
 // The first bytes of a letter, each length from one to below another.
 fn show_lengths(
+    rt: &impl Print,
     label: &[u8],
     size: u64,
     root: &[u8; 32],
@@ -47,7 +48,7 @@ fn show_lengths(
         let c = letter_checker::check(&mode, size, root, front(letter, n));
         count(&mut counts, c.number);
     }
-    show_counts(label, &counts);
+    show_counts(rt, label, &counts);
 }
 
 // The number of a letter of n bytes with some bits of one byte flipped.
@@ -77,21 +78,21 @@ fn flip_byte(
 }
 
 // Each bit of a letter of n bytes.
-fn show_flips(size: u64, root: &[u8; 32], letter: &[u8; 400], n: usize) {
+fn show_flips(rt: &impl Print, size: u64, root: &[u8; 32], letter: &[u8; 400], n: usize) {
     let mut counts = [0u64; 16];
     for at in 0..n {
         flip_byte(size, root, letter, n, at, &mut counts);
     }
-    show_counts(b"flipped\n", &counts);
+    show_counts(rt, b"flipped\n", &counts);
 }
 
-pub(crate) fn show_all() {
+pub(crate) fn show_all(rt: &impl Print) {
     let mut nodes = [0u8; 1216];
     let size = log_of(15, &mut nodes);
     let mut letter = [0u8; 400];
     let n = letter_of(size, 12, &nodes, &mut letter);
     let root = root_of(size, &nodes);
-    show_lengths(b"cut\n", size, &root, &letter, 0, n);
-    show_lengths(b"longer\n", size, &root, &letter, 180, 401);
-    show_flips(size, &root, &letter, n);
+    show_lengths(rt, b"cut\n", size, &root, &letter, 0, n);
+    show_lengths(rt, b"longer\n", size, &root, &letter, 180, 401);
+    show_flips(rt, size, &root, &letter, n);
 }

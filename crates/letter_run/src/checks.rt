@@ -24,10 +24,18 @@ fn restated(named: u64, index: u64, stated: u64) -> [u8; 400] {
 
 // One line: what is given, and what the checker makes of it. The trusted size and how much of the root is lent; the size, the index and the record
 // length that the letter states, and its length.
-fn try_check(size: u64, lent: u64, named: u64, index: u64, stated: u64, length: u64) {
+fn try_check(
+    rt: &impl Print,
+    size: u64,
+    lent: u64,
+    named: u64,
+    index: u64,
+    stated: u64,
+    length: u64,
+) {
     let mode = digest::plain();
     let row = [size, lent, named, index, stated, length];
-    say_numbers(b"check", &row);
+    say_numbers(rt, b"check", &row);
     let trusted = root();
     let given = restated(named, index, stated);
     let c = letter_checker::check(
@@ -36,24 +44,24 @@ fn try_check(size: u64, lent: u64, named: u64, index: u64, stated: u64, length: 
         front(&trusted, lent as usize),
         front(&given, length as usize),
     );
-    show_checked(b":", c);
-    end_line();
+    show_checked(rt, b":", c);
+    end_line(rt);
 }
 
 // Done, then each refusal once: 1, 12, 7 (under 20), 8, 5, 3, 7 (one byte short, one byte long), 9.
-fn try_rows() {
-    try_check(11, 32, 11, 3, 200, 316);
-    try_check(2, 32, 11, 3, 200, 316);
-    try_check(11, 31, 11, 3, 200, 316);
-    try_check(11, 32, 11, 3, 200, 19);
-    try_check(11, 32, 4, 3, 200, 316);
-    try_check(11, 32, 11, 7, 200, 316);
-    try_check(11, 32, 11, 3, 16385, 316);
-    try_check(11, 32, 11, 3, 200, 315);
-    try_check(11, 32, 11, 3, 200, 317);
-    try_check(11, 32, 11, 2, 200, 316);
+fn try_rows(rt: &impl Print) {
+    try_check(rt, 11, 32, 11, 3, 200, 316);
+    try_check(rt, 2, 32, 11, 3, 200, 316);
+    try_check(rt, 11, 31, 11, 3, 200, 316);
+    try_check(rt, 11, 32, 11, 3, 200, 19);
+    try_check(rt, 11, 32, 4, 3, 200, 316);
+    try_check(rt, 11, 32, 11, 7, 200, 316);
+    try_check(rt, 11, 32, 11, 3, 16385, 316);
+    try_check(rt, 11, 32, 11, 3, 200, 315);
+    try_check(rt, 11, 32, 11, 3, 200, 317);
+    try_check(rt, 11, 32, 11, 2, 200, 316);
 }
 
-pub(crate) fn show_all() {
-    try_rows();
+pub(crate) fn show_all(rt: &impl Print) {
+    try_rows(rt);
 }

@@ -4,19 +4,37 @@ use runs::given::{front, length_of, record_of};
 use runs::lines::{end_line, say_digest, say_numbers};
 
 // A letter of n bytes: its digest; what the checker makes of it; whether its record differs from the log's, and whether a byte behind it has changed.
-fn show_letter(size: u64, root: [u8; 32], out: &[u8; 16640], n: usize, rec: &[u8]) {
+fn show_letter(
+    rt: &impl Print,
+    size: u64,
+    root: [u8; 32],
+    out: &[u8; 16640],
+    n: usize,
+    rec: &[u8],
+) {
     let mode = digest::plain();
     let letter = front(out, n);
-    say_digest(b" ", letter);
-    show_checked(b" check", letter_checker::check(&mode, size, &root, letter));
+    say_digest(rt, b" ", letter);
+    show_checked(
+        rt,
+        b" check",
+        letter_checker::check(&mode, size, &root, letter),
+    );
     let other = wire::differ(letter_checker::record_in(&mode, size, &root, letter), rec);
     let numbers = [other as u64, changed_behind(out, n)];
-    say_numbers(b" differ", &numbers);
-    end_line();
+    say_numbers(rt, b" differ", &numbers);
+    end_line(rt);
 }
 
 // The line of one letter, written with its record.
-fn show_line(leaves: usize, size: u64, index: usize, rec: &[u8], nodes: &[u8; 1216]) {
+fn show_line(
+    rt: &impl Print,
+    leaves: usize,
+    size: u64,
+    index: usize,
+    rec: &[u8],
+    nodes: &[u8; 1216],
+) {
     let mode = digest::plain();
     let mut out = output();
     let w = letter_writer::write_letter(&mode, size, index as u64, rec, nodes, &mut out);
@@ -26,24 +44,31 @@ fn show_line(leaves: usize, size: u64, index: usize, rec: &[u8], nodes: &[u8; 12
         w.number as u64,
         w.length as u64,
     ];
-    say_numbers(b"letter", &numbers);
-    show_letter(size, root_of(size, nodes), &out, w.length, rec);
+    say_numbers(rt, b"letter", &numbers);
+    show_letter(rt, size, root_of(size, nodes), &out, w.length, rec);
 }
 
 // The lines of a log.
-fn show_log(leaves: usize, size: u64, nodes: &[u8; 1216]) {
+fn show_log(rt: &impl Print, leaves: usize, size: u64, nodes: &[u8; 1216]) {
     for index in 0..leaves {
         let rec = record_of(index);
-        show_line(leaves, size, index, front(&rec, length_of(index)), nodes);
+        show_line(
+            rt,
+            leaves,
+            size,
+            index,
+            front(&rec, length_of(index)),
+            nodes,
+        );
     }
 }
 
-pub(crate) fn show_all() {
+pub(crate) fn show_all(rt: &impl Print) {
     let mut nodes = [0u8; 1216];
     let mut size: u64 = 0;
     for k in 0..20 {
         let next = grow(size, k, &mut nodes);
         size = next;
-        show_log(k + 1, size, &nodes);
+        show_log(rt, k + 1, size, &nodes);
     }
 }

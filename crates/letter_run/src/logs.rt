@@ -59,7 +59,7 @@ pub(crate) fn changed_behind(out: &[u8; 16640], n: usize) -> u64 {
 }
 
 // A label, the number, the index, and where the record lies in the letter.
-pub(crate) fn show_checked(label: &[u8], c: Checked) {
+pub(crate) fn show_checked(rt: &impl Print, label: &[u8], c: Checked) {
     let numbers = [c.number as u64, c.index, c.start as u64, c.length as u64];
-    say_numbers(label, &numbers);
+    say_numbers(rt, label, &numbers);
 }

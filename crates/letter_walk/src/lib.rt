@@ -1,4 +1,6 @@
 // The walk from the root of the folded tree down to a leaf, the log's side beside the letter's, and whether a node on the way is broken.
+#![tactic(auto)]
+
 ghost use Rattle.std.specs.Prelude.{◌≡◌};
 ghost use Rattle.digest.specs.Digest.{digest_in};
 ghost use Rattle.nodes.specs.Nodes.{node_in};

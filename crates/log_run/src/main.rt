@@ -1,10 +1,12 @@
 // A log of forty records over one buffer, then each refusal, to be compared with the second program's.
+#![tactic(auto)]
+
 mod given;
 mod lines;
 
+use evidence_log::Appended;
 use given::{append_lent, buffer_of, edge_of, root_lent};
 use lines::{show_appended, show_digest, show_rooted};
-use evidence_log::Appended;
 use runs::given::record_of;
 use runs::lines::{say, say_number};
 
@@ -12,119 +14,126 @@ use runs::lines::{say, say_number};
 const LENGTHS: [usize; 11] = [0, 1, 31, 32, 33, 63, 64, 65, 200, 1024, 16384];
 
 // The digests of the nodes and of the bytes beyond the size.
-fn show_parts(size: u64, nodes: &[u8]) {
+fn show_parts(rt: &impl Print, size: u64, nodes: &[u8]) {
     let mode = digest::plain();
     let at = edge_of(size, nodes.len());
-    show_digest(b"  nodes ", digest::digest_of(&mode, &nodes[..at]));
-    show_digest(b"  beyond ", digest::digest_of(&mode, &nodes[at..]));
+    show_digest(rt, b"  nodes ", digest::digest_of(&mode, &nodes[..at]));
+    show_digest(rt, b"  beyond ", digest::digest_of(&mode, &nodes[at..]));
 }
 
 // The digests of the two parts, and the root.
-fn show_state(size: u64, nodes: &[u8; 2624]) {
+fn show_state(rt: &impl Print, size: u64, nodes: &[u8; 2624]) {
     let mode = digest::plain();
-    show_parts(size, nodes);
-    show_rooted(b"  root ", evidence_log::root(&mode, size, nodes));
+    show_parts(rt, size, nodes);
+    show_rooted(rt, b"  root ", evidence_log::root(&mode, size, nodes));
 }
 
 // The lines of an append of the first n bytes of record i.
-fn show_append(i: usize, n: usize, a: Appended, nodes: &[u8; 2624]) {
-    say_number(b"append ", i as u64);
-    say_number(b", record of length ", n as u64);
-    show_appended(b":", a);
-    show_state(a.size, nodes);
+fn show_append(rt: &impl Print, i: usize, n: usize, a: Appended, nodes: &[u8; 2624]) {
+    say_number(rt, b"append ", i as u64);
+    say_number(rt, b", record of length ", n as u64);
+    show_appended(rt, b":", a);
+    show_state(rt, a.size, nodes);
 }
 
 // Record i, its first n bytes, appended, and the lines of that; the new size.
-fn append_next(size: u64, i: usize, n: usize, nodes: &mut [u8; 2624], shown: bool) -> u64 {
+fn append_next(
+    rt: &impl Print,
+    size: u64,
+    i: usize,
+    n: usize,
+    nodes: &mut [u8; 2624],
+    shown: bool,
+) -> u64 {
     let rec = record_of(i);
     let a = append_lent(size, &rec, n, nodes, 2624);
     if shown {
-        show_append(i, n, a, nodes);
+        show_append(rt, i, n, a, nodes);
     }
     a.size
 }
 
 // Forty records; the size at the end.
-fn run(nodes: &mut [u8; 2624], shown: bool) -> u64 {
+fn run(rt: &impl Print, nodes: &mut [u8; 2624], shown: bool) -> u64 {
     let lengths = LENGTHS;
     let mut size: u64 = 0;
     for i in 0..40 {
-        let next = append_next(size, i, lengths[i % 11], nodes, shown);
+        let next = append_next(rt, size, i, lengths[i % 11], nodes, shown);
         size = next;
     }
     size
 }
 
 // The digest of the whole buffer, after its label.
-fn show_whole(label: &[u8], nodes: &[u8; 2624]) {
+fn show_whole(rt: &impl Print, label: &[u8], nodes: &[u8; 2624]) {
     let mode = digest::plain();
-    show_digest(label, digest::digest_of(&mode, nodes));
+    show_digest(rt, label, digest::digest_of(&mode, nodes));
 }
 
 // What an append is given.
-fn show_given(size: u64, n: usize, lent: usize) {
-    say_number(b"size ", size);
-    say_number(b", record of length ", n as u64);
-    say_number(b", buffer of length ", lent as u64);
-    say(b":\n");
+fn show_given(rt: &impl Print, size: u64, n: usize, lent: usize) {
+    say_number(rt, b"size ", size);
+    say_number(rt, b", record of length ", n as u64);
+    say_number(rt, b", buffer of length ", lent as u64);
+    say(rt, b":\n");
 }
 
 // One append, and the whole buffer before and after.
-fn try_append(size: u64, n: usize, lent: usize, nodes: &mut [u8; 2624]) {
-    show_given(size, n, lent);
-    show_whole(b"  before ", nodes);
+fn try_append(rt: &impl Print, size: u64, n: usize, lent: usize, nodes: &mut [u8; 2624]) {
+    show_given(rt, size, n, lent);
+    show_whole(rt, b"  before ", nodes);
     let rec = record_of(40);
     let a = append_lent(size, &rec, n, nodes, lent);
-    show_appended(b"  append", a);
-    show_whole(b"  after ", nodes);
+    show_appended(rt, b"  append", a);
+    show_whole(rt, b"  after ", nodes);
 }
 
 // Each refusal: 1, 2, 3, 4; then a record of 16,384 bytes in a buffer that just holds it, and one more.
-fn try_appends(nodes: &mut [u8; 2624]) {
-    try_append(2, 0, 2624, nodes);
-    try_append(8589934591, 0, 2624, nodes);
-    try_append(78, 16385, 2624, nodes);
-    try_append(78, 16384, 2527, nodes);
-    try_append(78, 16384, 2528, nodes);
-    try_append(79, 0, 2592, nodes);
+fn try_appends(rt: &impl Print, nodes: &mut [u8; 2624]) {
+    try_append(rt, 2, 0, 2624, nodes);
+    try_append(rt, 8589934591, 0, 2624, nodes);
+    try_append(rt, 78, 16385, 2624, nodes);
+    try_append(rt, 78, 16384, 2527, nodes);
+    try_append(rt, 78, 16384, 2528, nodes);
+    try_append(rt, 79, 0, 2592, nodes);
 }
 
 // One root.
-fn try_root(size: u64, lent: usize, nodes: &[u8; 2624]) {
-    say_number(b"root of size ", size);
-    say_number(b", buffer of length ", lent as u64);
-    show_rooted(b": ", root_lent(size, nodes, lent));
+fn try_root(rt: &impl Print, size: u64, lent: usize, nodes: &[u8; 2624]) {
+    say_number(rt, b"root of size ", size);
+    say_number(rt, b", buffer of length ", lent as u64);
+    show_rooted(rt, b": ", root_lent(size, nodes, lent));
 }
 
 // Each refusal: 1, 10, 4; then the root, and that of the log as it was before.
-fn try_roots(nodes: &[u8; 2624]) {
-    try_root(2, 2624, nodes);
-    try_root(0, 2624, nodes);
-    try_root(81, 2591, nodes);
-    try_root(81, 2592, nodes);
-    try_root(78, 2624, nodes);
+fn try_roots(rt: &impl Print, nodes: &[u8; 2624]) {
+    try_root(rt, 2, 2624, nodes);
+    try_root(rt, 0, 2624, nodes);
+    try_root(rt, 81, 2591, nodes);
+    try_root(rt, 81, 2592, nodes);
+    try_root(rt, 78, 2624, nodes);
 }
 
 // The log over a buffer of counting bytes.
-fn first_buffer() {
+fn first_buffer(rt: &impl Print) {
     let mut nodes = buffer_of(1);
-    say(b"empty:\n");
-    show_state(0, &nodes);
-    run(&mut nodes, true);
-    try_appends(&mut nodes);
-    try_roots(&nodes);
-    show_whole(b"after ", &nodes);
+    say(rt, b"empty:\n");
+    show_state(rt, 0, &nodes);
+    run(rt, &mut nodes, true);
+    try_appends(rt, &mut nodes);
+    try_roots(rt, &nodes);
+    show_whole(rt, b"after ", &nodes);
 }
 
 // The same records over other bytes: the same nodes and root.
-fn other_buffer() {
+fn other_buffer(rt: &impl Print) {
     let mut nodes = buffer_of(3);
-    let size = run(&mut nodes, false);
-    say(b"over other bytes:\n");
-    show_state(size, &nodes);
+    let size = run(rt, &mut nodes, false);
+    say(rt, b"over other bytes:\n");
+    show_state(rt, size, &nodes);
 }
 
-fn main() {
-    first_buffer();
-    other_buffer();
+fn main(rt: HostRuntime) {
+    first_buffer(&rt);
+    other_buffer(&rt);
 }

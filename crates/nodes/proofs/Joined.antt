@@ -1,11 +1,10 @@
 -- A node as bytes: 32 of them, wherever it is; copied from its place; and the one at a position of joined digests.
-use mathlib.Core.Path.{◌≡◌, sym, ap, ap₂, ◌∙◌}
-use mathlib.Core.List.{List, [], ◌∷◌, ◌++◌, append_assoc, append-nil}
+use mathlib.Core.Path.{◌≡◌, sym, ap, ◌∙◌}
+use mathlib.Core.List.{List, [], ◌∷◌, ◌++◌, append_assoc}
 use Prim.Native.Nat.{ℕ, zero, suc, ◌+◌, ◌-◌, ◌*◌, ◌≤◌, ◌<◌}
 use native.Mathlib.Omega.{arith}
 use lib.ListN.{length, get_or, take, drop}
-use lib.Seq.{take_all}
-use Rattle.wire.specs.Slices.{part, zeros, Each, joined}
+use Rattle.wire.specs.Slices.{part, Each, joined}
 use Rattle.wire.proofs.Lent.{slice_part}
 use Rattle.wire.proofs.Parts.{part_length, part_front, part_past, part_whole}
 use Rattle.nodes.specs.Nodes.{node_in}
@@ -15,16 +14,9 @@ pub node_length : (bs : List ℕ) (p : ℕ) → length (node_in bs p) ≡ 32
 unfolding node_in
 node_length bs p = part_length _ 32 bs
 
--- 32 bytes copied from a place on, over all of what was there
-pub copied : (bs : List ℕ) (at : ℕ) {s x : List ℕ} → at + 32 ≤ length bs → s ≡ take (at + 32 - at) (drop at bs)
-    → x ≡ take (length s) s ++ drop (length s) (zeros 32) → x ≡ part at 32 bs
-copied bs at {s} h f e =
-    let k : s ≡ part at 32 bs = f ∙ slice_part at 32 bs h in
-    let n : length s ≡ 32 = ap length k ∙ part_length at 32 bs in
-    e
-    ∙ ap₂ (λ (a b : List ℕ). a ++ b) (take_all (length s) s (omega arith)) (ap (λ (j : ℕ). drop j (zeros 32)) n)
-    ∙ append-nil s
-    ∙ k
+-- 32 bytes copied from a place on
+pub copied : (bs : List ℕ) (at : ℕ) {s x : List ℕ} → at + 32 ≤ length bs → s ≡ take (at + 32 - at) (drop at bs) → x ≡ s → x ≡ part at 32 bs
+copied bs at h f e = e ∙ f ∙ slice_part at 32 bs h
 
 -- position p of joined digests, whatever follows them
 pub node_joined : (ds : List (List ℕ)) (rest : List ℕ) (p : ℕ) → Each 32 ds → p < length ds → node_in (joined ds ++ rest) p ≡ get_or ds p []

@@ -1,4 +1,6 @@
 // The one reader of a log's nodes: the digest at a position, and peaks folded from the right.
+#![tactic(auto)]
+
 ghost use Rattle.std.specs.Prelude.{◌≡◌};
 ghost use Rattle.digest.specs.Digest.{digest_in};
 ghost use Rattle.shape.specs.Positions.{peaks_in, fold};
@@ -34,7 +36,7 @@ pub fn node_at(nodes: &[u8], p: u64) -> Digest
     let at = (32 * p) as usize;
     let end = at + 32;
     let mut out = [0u8; 32];
-    bytes::copy(&nodes[at..end], &mut out);
+    out.copy_from_slice(&nodes[at..end]);
     Digest { bytes: out }
 }
 

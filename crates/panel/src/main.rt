@@ -1,18 +1,20 @@
 // The program that panels run: trusted size (8 bytes, big-endian), root (32) and one letter from standard input, the verdict number in
 // decimal and a newline to standard output. It reads at most 17,469 bytes, since a longer letter gets the same number.
+#![tactic(auto)]
+
 ghost use Rattle.std.specs.Prelude.{◌≡◌, List, ℕ, length, take};
 ghost use Rattle.io.specs.Counts.{IsPrefixLen};
 ghost use Rattle.io.specs.Digits.{last_digits, IsDigitCount};
 ghost use Rattle.digest.specs.Digest.{digest_of};
 ghost use Rattle.letter_checker.specs.Outcome.{judged};
 
-use libc::{STDIN_FILENO, STDOUT_FILENO};
+use std::io::Result;
 
 // The verdict number in decimal, by the fewest digits, at the start of out; how many they are.
 fn verdict(input: &[u8], out: &mut [u8; 20]) -> usize
-    ensures prefix_len { IsPrefixLen result out.new }
-    ensures by_index { (whole : List ℕ) → input.now ≡ take 17469 whole → IsDigitCount 10 1 (judged digest_of whole) result }
-    ensures by_index_2 { (whole : List ℕ) → input.now ≡ take 17469 whole
+    ensures within { IsPrefixLen result out.new }
+    ensures count { (whole : List ℕ) → input.now ≡ take 17469 whole → IsDigitCount 10 1 (judged digest_of whole) result }
+    ensures digits { (whole : List ℕ) → input.now ≡ take 17469 whole
         → take result out.new ≡ last_digits 10 result (judged digest_of whole) }
 {
     let mode = digest::plain();
@@ -26,11 +28,11 @@ fn buffer() -> [u8; 17469]
     [0; 17469]
 }
 
-fn main() {
+fn main(rt: HostRuntime) -> Result<()> {
     let mut input = buffer();
-    let n = io::read_full(STDIN_FILENO, &mut input);
+    let n = streams::read_full(&mut rt.stdin(), &mut input);
     let mut text = [0u8; 20];
     let k = verdict(&input[..n], &mut text);
-    io::write_all(STDOUT_FILENO, &text[..k]);
-    io::write_all(STDOUT_FILENO, b"\n");
+    rt.write_all(&text[..k])?;
+    rt.write_all(b"\n")
 }

@@ -14,7 +14,7 @@ use subtrees::counts::{MOST, counted};
 // A state, as C lays it out, without padding: how many bytes came in all, how many of them the block holds, and how many subtrees the stack; the mode, whose
 // number is 0 for plain and any other for keyed, and its key's words; the open chunk's chaining words; the stack of finished subtrees; the block.
 #[repr(C)]
-#[derive(Drop)]
+#[derive(Clone, Copy)]
 pub struct Parts {
     pub total: u64,
     pub held: u64,

@@ -27,65 +27,65 @@ fn taken(state: Parts, bytes: &[u8], length: usize, count: usize) -> Parts {
 }
 
 // The line of so many parts of one length, and of more bytes behind them at once.
-fn show_row(keyed: u32, length: usize, count: usize, more: usize) {
+fn show_row(rt: &impl Print, keyed: u32, length: usize, count: usize, more: usize) {
     let row = [length as u64, count as u64, more as u64];
-    say_numbers(b" ", &row);
+    say_numbers(rt, b" ", &row);
     let bytes = record_of(0);
     let s = taken(begun(keyed), &bytes, length, count);
     let from = s.total as usize;
-    show_added(parts::add(s, part_of(&bytes, from, more)));
+    show_added(rt, parts::add(s, part_of(&bytes, from, more)));
 }
 
 // The lengths of digest_run, in one part.
-fn show_lengths(keyed: u32) {
-    show_row(keyed, 0, 1, 0);
-    show_row(keyed, 1, 1, 0);
-    show_row(keyed, 63, 1, 0);
-    show_row(keyed, 64, 1, 0);
-    show_row(keyed, 65, 1, 0);
-    show_row(keyed, 1023, 1, 0);
-    show_row(keyed, 1024, 1, 0);
-    show_row(keyed, 1025, 1, 0);
-    show_row(keyed, 2048, 1, 0);
-    show_row(keyed, 2049, 1, 0);
+fn show_lengths(rt: &impl Print, keyed: u32) {
+    show_row(rt, keyed, 0, 1, 0);
+    show_row(rt, keyed, 1, 1, 0);
+    show_row(rt, keyed, 63, 1, 0);
+    show_row(rt, keyed, 64, 1, 0);
+    show_row(rt, keyed, 65, 1, 0);
+    show_row(rt, keyed, 1023, 1, 0);
+    show_row(rt, keyed, 1024, 1, 0);
+    show_row(rt, keyed, 1025, 1, 0);
+    show_row(rt, keyed, 2048, 1, 0);
+    show_row(rt, keyed, 2049, 1, 0);
 }
 
 // Cut after so many bytes: a byte behind them, and a block.
-fn show_two(keyed: u32, at: usize) {
-    show_row(keyed, at, 1, 1);
-    show_row(keyed, at, 1, 64);
+fn show_two(rt: &impl Print, keyed: u32, at: usize) {
+    show_row(rt, keyed, at, 1, 1);
+    show_row(rt, keyed, at, 1, 64);
 }
 
 // Cut at each place around an edge, of which the first is given.
-fn show_edge(keyed: u32, first: usize) {
+fn show_edge(rt: &impl Print, keyed: u32, first: usize) {
     if first < 5000 {
-        show_two(keyed, first);
-        show_two(keyed, first + 1);
-        show_two(keyed, first + 2);
-        show_two(keyed, first + 3);
-        show_two(keyed, first + 4);
+        show_two(rt, keyed, first);
+        show_two(rt, keyed, first + 1);
+        show_two(rt, keyed, first + 2);
+        show_two(rt, keyed, first + 3);
+        show_two(rt, keyed, first + 4);
     }
 }
 
 // Empty parts, byte by byte, and parts up to more than four chunks.
-fn show_steps(keyed: u32) {
-    show_row(keyed, 0, 3, 1);
-    show_row(keyed, 1, 65, 1);
-    show_row(keyed, 1, 1025, 3000);
-    show_row(keyed, 1, 4097, 0);
-    show_row(keyed, 7, 150, 5000);
-    show_row(keyed, 63, 66, 5000);
-    show_row(keyed, 64, 80, 0);
-    show_row(keyed, 1024, 5, 9000);
-    show_row(keyed, 1500, 10, 1);
-    show_row(keyed, 4096, 3, 4097);
-    show_row(keyed, 5000, 2, 6385);
+fn show_steps(rt: &impl Print, keyed: u32) {
+    show_row(rt, keyed, 0, 3, 1);
+    show_row(rt, keyed, 1, 65, 1);
+    show_row(rt, keyed, 1, 1025, 3000);
+    show_row(rt, keyed, 1, 4097, 0);
+    show_row(rt, keyed, 7, 150, 5000);
+    show_row(rt, keyed, 63, 66, 5000);
+    show_row(rt, keyed, 64, 80, 0);
+    show_row(rt, keyed, 1024, 5, 9000);
+    show_row(rt, keyed, 1500, 10, 1);
+    show_row(rt, keyed, 4096, 3, 4097);
+    show_row(rt, keyed, 5000, 2, 6385);
 }
 
-pub(crate) fn show_all(keyed: u32) {
-    show_lengths(keyed);
-    show_edge(keyed, 62);
-    show_edge(keyed, 1022);
-    show_edge(keyed, 4094);
-    show_steps(keyed);
+pub(crate) fn show_all(rt: &impl Print, keyed: u32) {
+    show_lengths(rt, keyed);
+    show_edge(rt, keyed, 62);
+    show_edge(rt, keyed, 1022);
+    show_edge(rt, keyed, 4094);
+    show_steps(rt, keyed);
 }

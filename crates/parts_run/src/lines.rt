@@ -3,23 +3,23 @@ use parts::{Added, Parts};
 use runs::lines::{end_line, say_digest, say_hex, say_number, say_numbers};
 
 // What a state ends in: the number and the digest; and the end of the line.
-pub(crate) fn show_end(s: Parts) {
+pub(crate) fn show_end(rt: &impl Print, s: Parts) {
     let e = parts::end(s);
-    say_number(b" ", e.number as u64);
+    say_number(rt, b" ", e.number as u64);
     let d = e.digest;
     let bytes = d.bytes;
-    say_hex(b" ", bytes);
-    end_line();
+    say_hex(rt, b" ", bytes);
+    end_line(rt);
 }
 
 // Of a stack the first word of its second place, and its last of all.
-fn show_places(stack: [u32; 240]) {
+fn show_places(rt: &impl Print, stack: [u32; 240]) {
     let words = [stack[8] as u64, stack[239] as u64];
-    say_numbers(b"", &words);
+    say_numbers(rt, b"", &words);
 }
 
 // What came of a part: the number, the state's numbers, two words of its stack, the digest of its block, and what it ends in.
-pub(crate) fn show_added(a: Added) {
+pub(crate) fn show_added(rt: &impl Print, a: Added) {
     let s = a.state;
     let numbers = [
         a.number as u64,
@@ -28,10 +28,10 @@ pub(crate) fn show_added(a: Added) {
         s.stacked as u64,
         s.keyed as u64,
     ];
-    say_numbers(b":", &numbers);
+    say_numbers(rt, b":", &numbers);
     let stack = s.stack;
-    show_places(stack);
+    show_places(rt, stack);
     let block = s.block;
-    say_digest(b" ", &block);
-    show_end(s);
+    say_digest(rt, b" ", &block);
+    show_end(rt, s);
 }

@@ -50,85 +50,85 @@ fn with_counts(state: Parts, total: u64, held: u64, stacked: u32) -> Parts {
 }
 
 // Two lines of a state with other counts: what it ends in, and what comes of n bytes added to it.
-fn try_counts(kind: u32, total: u64, held: u64, stacked: u32, n: usize) {
+fn try_counts(rt: &impl Print, kind: u32, total: u64, held: u64, stacked: u32, n: usize) {
     let bytes = record_of(0);
     let s = with_counts(state_of(kind), total, held, stacked);
     let row = [total, held, stacked as u64, n as u64];
-    say_numbers(b" ", &row);
-    show_end(s);
-    say_numbers(b" ", &row);
-    show_added(parts::add(s, front(&bytes, n)));
+    say_numbers(rt, b" ", &row);
+    show_end(rt, s);
+    say_numbers(rt, b" ", &row);
+    show_added(rt, parts::add(s, front(&bytes, n)));
 }
 
 // The counts of some totals, and each of them wrong by one.
-fn try_off(kind: u32) {
-    try_counts(kind, 0, 0, 0, 0);
-    try_counts(kind, 0, 1, 0, 0);
-    try_counts(kind, 0, 0, 1, 0);
-    try_counts(kind, 1, 0, 0, 1);
-    try_counts(kind, 1, 2, 0, 1);
-    try_counts(kind, 64, 0, 0, 1);
-    try_counts(kind, 64, 63, 0, 1);
-    try_counts(kind, 64, 65, 0, 1);
-    try_counts(kind, 1024, 64, 0, 1);
-    try_counts(kind, 1024, 63, 0, 1);
-    try_counts(kind, 1024, 0, 1, 1);
-    try_counts(kind, 1024, 64, 1, 0);
-    try_counts(kind, 1025, 1, 1, 1);
-    try_counts(kind, 1024, 1, 1, 1);
-    try_counts(kind, 1026, 1, 1, 1);
-    try_counts(kind, 1025, 0, 1, 0);
-    try_counts(kind, 1025, 2, 1, 0);
-    try_counts(kind, 1025, 1, 0, 1);
-    try_counts(kind, 1025, 1, 2, 1);
+fn try_off(rt: &impl Print, kind: u32) {
+    try_counts(rt, kind, 0, 0, 0, 0);
+    try_counts(rt, kind, 0, 1, 0, 0);
+    try_counts(rt, kind, 0, 0, 1, 0);
+    try_counts(rt, kind, 1, 0, 0, 1);
+    try_counts(rt, kind, 1, 2, 0, 1);
+    try_counts(rt, kind, 64, 0, 0, 1);
+    try_counts(rt, kind, 64, 63, 0, 1);
+    try_counts(rt, kind, 64, 65, 0, 1);
+    try_counts(rt, kind, 1024, 64, 0, 1);
+    try_counts(rt, kind, 1024, 63, 0, 1);
+    try_counts(rt, kind, 1024, 0, 1, 1);
+    try_counts(rt, kind, 1024, 64, 1, 0);
+    try_counts(rt, kind, 1025, 1, 1, 1);
+    try_counts(rt, kind, 1024, 1, 1, 1);
+    try_counts(rt, kind, 1026, 1, 1, 1);
+    try_counts(rt, kind, 1025, 0, 1, 0);
+    try_counts(rt, kind, 1025, 2, 1, 0);
+    try_counts(rt, kind, 1025, 1, 0, 1);
+    try_counts(rt, kind, 1025, 1, 2, 1);
 }
 
 // A stack too high or too low for its total.
-fn try_stacks(kind: u32) {
-    try_counts(kind, 4096, 64, 2, 1);
-    try_counts(kind, 4096, 64, 1, 1);
-    try_counts(kind, 4096, 64, 3, 1);
-    try_counts(kind, 4097, 1, 1, 1);
-    try_counts(kind, 4097, 1, 0, 1);
-    try_counts(kind, 4097, 1, 2, 1);
-    try_counts(kind, 4097, 1, 4294967295, 0);
+fn try_stacks(rt: &impl Print, kind: u32) {
+    try_counts(rt, kind, 4096, 64, 2, 1);
+    try_counts(rt, kind, 4096, 64, 1, 1);
+    try_counts(rt, kind, 4096, 64, 3, 1);
+    try_counts(rt, kind, 4097, 1, 1, 1);
+    try_counts(rt, kind, 4097, 1, 0, 1);
+    try_counts(rt, kind, 4097, 1, 2, 1);
+    try_counts(rt, kind, 4097, 1, 4294967295, 0);
 }
 
 // Five bytes before 2^40 and a chunk before it, at it, one byte behind it, and at 2^64 - 1.
-fn try_limits(kind: u32) {
-    try_counts(kind, 1099511627771, 59, 30, 0);
-    try_counts(kind, 1099511627771, 59, 30, 5);
-    try_counts(kind, 1099511627771, 59, 30, 6);
-    try_counts(kind, 1099511626752, 64, 29, 1024);
-    try_counts(kind, 1099511626752, 64, 29, 1025);
-    try_counts(kind, 1099511627776, 64, 30, 0);
-    try_counts(kind, 1099511627776, 64, 30, 1);
-    try_counts(kind, 1099511627776, 63, 30, 0);
-    try_counts(kind, 1099511627776, 64, 29, 0);
-    try_counts(kind, 1099511627776, 64, 31, 0);
-    try_counts(kind, 1099511627777, 1, 1, 0);
-    try_counts(kind, 1099511627777, 1, 1, 1);
-    try_counts(kind, 18446744073709551615, 63, 54, 0);
-    try_counts(kind, 18446744073709551615, 63, 54, 1);
-    try_counts(kind, 18446744073709551615, 63, 54, 2);
+fn try_limits(rt: &impl Print, kind: u32) {
+    try_counts(rt, kind, 1099511627771, 59, 30, 0);
+    try_counts(rt, kind, 1099511627771, 59, 30, 5);
+    try_counts(rt, kind, 1099511627771, 59, 30, 6);
+    try_counts(rt, kind, 1099511626752, 64, 29, 1024);
+    try_counts(rt, kind, 1099511626752, 64, 29, 1025);
+    try_counts(rt, kind, 1099511627776, 64, 30, 0);
+    try_counts(rt, kind, 1099511627776, 64, 30, 1);
+    try_counts(rt, kind, 1099511627776, 63, 30, 0);
+    try_counts(rt, kind, 1099511627776, 64, 29, 0);
+    try_counts(rt, kind, 1099511627776, 64, 31, 0);
+    try_counts(rt, kind, 1099511627777, 1, 1, 0);
+    try_counts(rt, kind, 1099511627777, 1, 1, 1);
+    try_counts(rt, kind, 18446744073709551615, 63, 54, 0);
+    try_counts(rt, kind, 18446744073709551615, 63, 54, 1);
+    try_counts(rt, kind, 18446744073709551615, 63, 54, 2);
 }
 
 // Counts that are their total's, and parts from none to more than four chunks.
-fn try_right(kind: u32) {
-    try_counts(kind, 0, 0, 0, 1025);
-    try_counts(kind, 0, 0, 0, 9000);
-    try_counts(kind, 1, 1, 0, 63);
-    try_counts(kind, 63, 63, 0, 2);
-    try_counts(kind, 1024, 64, 0, 0);
-    try_counts(kind, 1025, 1, 1, 7168);
-    try_counts(kind, 3072, 64, 1, 1);
-    try_counts(kind, 4096, 64, 2, 5000);
-    try_counts(kind, 4294967296, 64, 22, 1);
+fn try_right(rt: &impl Print, kind: u32) {
+    try_counts(rt, kind, 0, 0, 0, 1025);
+    try_counts(rt, kind, 0, 0, 0, 9000);
+    try_counts(rt, kind, 1, 1, 0, 63);
+    try_counts(rt, kind, 63, 63, 0, 2);
+    try_counts(rt, kind, 1024, 64, 0, 0);
+    try_counts(rt, kind, 1025, 1, 1, 7168);
+    try_counts(rt, kind, 3072, 64, 1, 1);
+    try_counts(rt, kind, 4096, 64, 2, 5000);
+    try_counts(rt, kind, 4294967296, 64, 22, 1);
 }
 
-pub(crate) fn show_all(kind: u32) {
-    try_off(kind);
-    try_stacks(kind);
-    try_limits(kind);
-    try_right(kind);
+pub(crate) fn show_all(rt: &impl Print, kind: u32) {
+    try_off(rt, kind);
+    try_stacks(rt, kind);
+    try_limits(rt, kind);
+    try_right(rt, kind);
 }

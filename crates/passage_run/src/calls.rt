@@ -7,24 +7,24 @@ use runs::given::front;
 use runs::lines::{end_line, say, say_digest, say_number, say_numbers};
 
 // One more number of a line.
-fn word(n: u64) {
-    say_number(b" ", n);
+fn word(rt: &impl Print, n: u64) {
+    say_number(rt, b" ", n);
 }
 
 // A number of RULES 2, and what is answered with it.
-fn say_two(label: &[u8], refusal: u32, answer: u64) {
-    say_number(label, refusal as u64);
-    word(answer);
+fn say_two(rt: &impl Print, label: &[u8], refusal: u32, answer: u64) {
+    say_number(rt, label, refusal as u64);
+    word(rt, answer);
 }
 
 // The digest of what is lent of an output, and of eight bytes behind it.
-fn show_out(out: &[u8; 16640], room: u64) {
+fn show_out(rt: &impl Print, out: &[u8; 16640], room: u64) {
     let n = std::num::wrapping_add_u64(room, 8);
-    say_digest(b" ", front(out, n as usize));
+    say_digest(rt, b" ", front(out, n as usize));
 }
 
 // The writer: the number and the length, and the digest of its output.
-fn show_write(mode: &[u8; 36], input: &[u8], row: &[u8]) {
+fn show_write(rt: &impl Print, mode: &[u8; 36], input: &[u8], row: &[u8]) {
     let indexes = indexes_in(part(input, row, 4));
     let lengths = lengths_in(part(input, row, 8));
     let mut out = [60u8; 16640];
@@ -38,34 +38,45 @@ fn show_write(mode: &[u8; 36], input: &[u8], row: &[u8]) {
         part(input, row, 10),
         &mut out[..room],
     );
-    say_two(b": write ", w.number, w.length as u64);
-    show_out(&out, number(row, 17));
+    say_two(rt, b": write ", w.number, w.length as u64);
+    show_out(rt, &out, number(row, 17));
 }
 
 // The checker: the number, and how many records there are.
-fn show_check(mode: &[u8; 36], size: u64, root: &[u8], letter: &[u8]) {
+fn show_check(rt: &impl Print, mode: &[u8; 36], size: u64, root: &[u8], letter: &[u8]) {
     let c = passage_checker::check(mode, size, root, letter);
-    say_two(b" check ", c.number, c.count);
+    say_two(rt, b" check ", c.number, c.count);
 }
 
 // Record k: the number, its index and place; its length and first bytes as it is handed out.
-fn show_entry(mode: &[u8; 36], size: u64, root: &[u8], letter: &[u8], k: u64) {
+fn show_entry(rt: &impl Print, mode: &[u8; 36], size: u64, root: &[u8], letter: &[u8], k: u64) {
     let e = passage_records::entry(mode, size, root, letter, k);
-    say_two(b" entry ", e.number, e.index);
-    word(e.start as u64);
-    word(e.length as u64);
+    say_two(rt, b" entry ", e.number, e.index);
+    word(rt, e.start as u64);
+    word(rt, e.length as u64);
     let rec = passage_records::record_in(mode, size, root, letter, k);
-    word(rec.len() as u64);
-    word(wire::read8(rec, 0));
+    word(rt, rec.len() as u64);
+    word(rt, wire::read8(rec, 0));
 }
 
 // The places of a list that are filled, and one more.
-fn show_list(list: &[u64; 257], count: u64) {
-    say_numbers(b" ", front64(list, std::num::wrapping_add_u64(count, 1)));
+fn show_list(rt: &impl Print, list: &[u64; 257], count: u64) {
+    say_numbers(
+        rt,
+        b" ",
+        front64(list, std::num::wrapping_add_u64(count, 1)),
+    );
 }
 
 // All records, into three lists, the first of which has so many places: the number, how many records there are, and the lists.
-fn show_entries(mode: &[u8; 36], size: u64, root: &[u8], letter: &[u8], places: u64) {
+fn show_entries(
+    rt: &impl Print,
+    mode: &[u8; 36],
+    size: u64,
+    root: &[u8],
+    letter: &[u8],
+    places: u64,
+) {
     let mut indexes = [9u64; 257];
     let mut starts = [9u64; 257];
     let mut lengths = [9u64; 257];
@@ -79,23 +90,23 @@ fn show_entries(mode: &[u8; 36], size: u64, root: &[u8], letter: &[u8], places: 
         &mut starts,
         &mut lengths,
     );
-    say_two(b" entries ", c.number, c.count);
-    show_list(&indexes, c.count);
-    show_list(&starts, c.count);
-    show_list(&lengths, c.count);
+    say_two(rt, b" entries ", c.number, c.count);
+    show_list(rt, &indexes, c.count);
+    show_list(rt, &starts, c.count);
+    show_list(rt, &lengths, c.count);
 }
 
 // The number, what is found (1 for "same", 2 for "records", 3 for "pair"), the index; whether the two buffers differ then.
-fn show_found(f: Named, first: &[u8; 80], second: &[u8; 80]) {
+fn show_found(rt: &impl Print, f: Named, first: &[u8; 80], second: &[u8; 80]) {
     let finding = f.finding;
     let found = difference::finding_number(finding);
-    say_two(b" find ", f.number, found as u64);
-    word(f.index);
-    word(wire::differ(first, second) as u64);
+    say_two(rt, b" find ", f.number, found as u64);
+    word(rt, f.index);
+    word(rt, wire::differ(first, second) as u64);
 }
 
 // The finder, with so much of two buffers.
-fn show_find(mode: &[u8; 36], input: &[u8], row: &[u8]) {
+fn show_find(rt: &impl Print, mode: &[u8; 36], input: &[u8], row: &[u8]) {
     let lengths = lengths_in(part(input, row, 8));
     let mut first = [60u8; 80];
     let mut second = [60u8; 80];
@@ -111,20 +122,20 @@ fn show_find(mode: &[u8; 36], input: &[u8], row: &[u8]) {
         &mut first[..one],
         &mut second[..two],
     );
-    show_found(f, &first, &second);
+    show_found(rt, f, &first, &second);
 }
 
 // The line of a row.
-pub(crate) fn show_row(input: &[u8], row: &[u8]) {
-    say(part(input, row, 0));
+pub(crate) fn show_row(rt: &impl Print, input: &[u8], row: &[u8]) {
+    say(rt, part(input, row, 0));
     let mode = mode_of(part(input, row, 2));
-    show_write(&mode, input, row);
+    show_write(rt, &mode, input, row);
     let root = part(input, row, 12);
     let letter = part(input, row, 14);
     let size = number(row, 16);
-    show_check(&mode, size, root, letter);
-    show_entry(&mode, size, root, letter, number(row, 18));
-    show_entries(&mode, size, root, letter, number(row, 19));
-    show_find(&mode, input, row);
-    end_line();
+    show_check(rt, &mode, size, root, letter);
+    show_entry(rt, &mode, size, root, letter, number(row, 18));
+    show_entries(rt, &mode, size, root, letter, number(row, 19));
+    show_find(rt, &mode, input, row);
+    end_line(rt);
 }

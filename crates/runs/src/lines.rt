@@ -3,52 +3,50 @@
 ghost use Rattle.std.specs.Prelude.{◌≡◌, ◌+◌, length};
 ghost use Rattle.runs.specs.Lines.{digits_in};
 
-use libc::STDOUT_FILENO;
-
-pub fn say(word: &[u8]) -> usize
+pub fn say(rt: &impl Print, word: &[u8]) -> usize
     ensures { result ≡ length word.now }
 {
-    io::write_all(STDOUT_FILENO, word);
+    let _ = rt.write_all(word);
     word.len()
 }
 
-pub fn end_line() -> usize
+pub fn end_line(rt: &impl Print) -> usize
     ensures { result ≡ 1 }
 {
-    say(b"\n")
+    say(rt, b"\n")
 }
 
-pub fn say_number(label: &[u8], n: u64) -> usize
+pub fn say_number(rt: &impl Print, label: &[u8], n: u64) -> usize
     ensures { result ≡ length label.now + digits_in n }
 {
     let mut text = [0u8; 20];
     let k = io::decimal(n, &mut text);
-    say(label) + say(&text[..k])
+    say(rt, label) + say(rt, &text[..k])
 }
 
-pub fn say_numbers(label: &[u8], numbers: &[u64]) -> usize
+pub fn say_numbers(rt: &impl Print, label: &[u8], numbers: &[u64]) -> usize
     ensures { result ≡ length numbers.now }
 {
-    say(label);
+    say(rt, label);
     let mut i = 0;
     while i < numbers.len() {
-        say_number(b" ", numbers[i]);
+        say_number(rt, b" ", numbers[i]);
         i += 1;
     }
     i
 }
 
-pub fn say_hex(label: &[u8], bytes: [u8; 32]) -> usize
+pub fn say_hex(rt: &impl Print, label: &[u8], bytes: [u8; 32]) -> usize
     ensures { result ≡ length label.now + 64 }
 {
-    say(label) + say(&hex_digits::digits_of(bytes))
+    say(rt, label) + say(rt, &hex_digits::digits_of(bytes))
 }
 
-pub fn say_digest(label: &[u8], bytes: &[u8]) -> usize
+pub fn say_digest(rt: &impl Print, label: &[u8], bytes: &[u8]) -> usize
     ensures { result ≡ length label.now + 64 }
 {
     let mode = digest::plain();
     let d = digest::digest_of(&mode, bytes);
     let b = d.bytes;
-    say_hex(label, b)
+    say_hex(rt, label, b)
 }

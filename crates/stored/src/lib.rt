@@ -11,7 +11,7 @@ ghost use Rattle.stored.specs.Nodes.{stated_in, record_in};
 ghost use Rattle.stored.specs.Read.{values_of, read_off, read_outcome, record_part};
 
 // What reading finds, a kind or a refusal: each refusal has a case of its own.
-#[derive(Drop)]
+#[derive(Clone, Copy)]
 pub enum Node {
     Inner,
     // The length of its record.
@@ -25,7 +25,7 @@ pub enum Node {
 }
 
 // What the reader answers. The digest is all zero for a refusal.
-#[derive(Drop)]
+#[derive(Clone, Copy)]
 pub struct Reading {
     pub node: Node,
     pub digest: [u8; 32],
