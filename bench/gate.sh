@@ -1,6 +1,7 @@
 #!/bin/sh
-# bench/gate.sh [FILE]: the seconds that each crate and each must-fail edit took, as a table, from what .ci/run or rt ci printed. They are seconds of the
-# clock: what each costs alone shows where no more checks go on at once than there are processors, as with RT_JOBS=2 .ci/run on two.
+# bench/gate.sh [FILE]: the seconds that each crate and each must-fail edit took, as a table, from what .ci/run or rt ci printed with the older kit that
+# docs/BENCH.md speaks of; today's rt ci prints no seconds. They are seconds of the clock: what each costs alone shows where no more checks go on at once
+# than there are processors, as with RT_JOBS=2 .ci/run on two.
 # Exit status: 0, or 1 where there is no such line.
 set -eu
 awk '

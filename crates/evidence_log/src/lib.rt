@@ -10,7 +10,7 @@ use digest::Digest;
 use shape::Counted;
 
 // The answer of an append: the number, the size and the hash count.
-#[derive(Drop)]
+#[derive(Clone, Copy)]
 pub struct Appended {
     pub number: u32,
     pub size: u64,
