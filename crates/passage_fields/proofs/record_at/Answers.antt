@@ -4,7 +4,6 @@ use mathlib.Core.List.{List}
 use Prim.Native.Nat.{ℕ, ◌<◌}
 use native.Mathlib.Nat.{le_of_lt}
 use native.Mathlib.Omega.{arith}
-use borrow.Author.Rules.{rules}
 use denote.Ref.{Bor}
 use lib.ListN.{length, take}
 use lib.Seq.{length-take-le, take_all}
@@ -12,8 +11,7 @@ use Rattle.wire.specs.Lent.{Part, lent}
 use Rattle.passage.specs.Bytes.{stated_at, record_at}
 use Rattle.passage_fields.specs.Fields.{record_part}
 use Rattle.passage_fields.specs.Steps.{rest_part}
-use Rattle.passage_fields.proofs.record_at.Statement.{statement}
-use Rattle.passage_fields.proofs.record_at.Tie as tie
+use Rattle.passage_fields.proofs.record_at.Goals as goal
 
 -- a part of what follows the 12 bytes, from its start on
 module _ (at stated : ℕ) (whole rest : Bor (List ℕ)) (r : lent rest ≡ rest_part at whole) (e : stated ≡ stated_at whole.now at) where
@@ -25,21 +23,16 @@ module _ (at stated : ℕ) (whole rest : Bor (List ℕ)) (r : lent rest ≡ rest
   all : length rest.now < stated → lent rest ≡ record_part at whole
   all h = sym (ap (λ (l : List ℕ). record { bytes = l; place = rest.ref_ptr }) (take_all stated rest.now (le_of_lt h))) ∙ taken
 
-returns : tie.Need-returns
+pub returns-then-rest-stated : goal.returns-then-rest-stated
+returns-then-rest-stated c =
+    let a = c.args in
+    all a.at c.stated_at-stated.result a.letter c.rest_at-rest.result c.rest_at-rest.ensures
+    c.stated_at-stated.ensures (omega arith)
+
+pub slice_bounds-result-end : goal.slice_bounds-result-end
+slice_bounds-result-end c = sym (length-take-le _ _ (omega arith))
+
+pub returns : goal.returns
 returns c =
-    let a = c.before.before.before.before.args in
-    all a.at c.before.before.stated-at.result a.letter c.before.rest_at.result c.before.rest_at.ensures
-    c.before.before.stated-at.ensures (omega arith)
-
-slice-aggregate-result : tie.Need-slice-aggregate-result
-slice-aggregate-result c = sym (length-take-le _ _ (omega arith))
-
-returns-2 : tie.Need-returns-2
-returns-2 c =
-    let k = c.before.before in
-    let a = k.before.before.before.args in
-    taken a.at k.before.stated-at.result a.letter k.rest_at.result k.rest_at.ensures k.before.stated-at.ensures
-
-pub record_at_spec : {M : Type 1} → statement M
-record_at_spec =
-    tie.close (tie.spec (λ c κs. search rules) (λ c κs. search rules) returns slice-aggregate-result returns-2)
+    let a = c.args in
+    taken a.at c.stated_at-stated.result a.letter c.rest_at-rest.result c.rest_at-rest.ensures c.stated_at-stated.ensures
