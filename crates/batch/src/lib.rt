@@ -1,4 +1,6 @@
 // Many records in one append: all of them, or none.
+#![tactic(auto)]
+
 ghost use Rattle.std.specs.Prelude.{◌≡◌, length};
 ghost use Rattle.digest.specs.Digest.{digest_in};
 ghost use Rattle.records.specs.Records.{total, cut};

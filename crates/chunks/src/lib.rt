@@ -1,5 +1,6 @@
 // BLAKE3's chunks: one, block after block, and four whole ones side by side.
 #![tactic(auto)]
+
 ghost use Rattle.std.specs.Prelude.{◌≡◌};
 ghost use Rattle.chunks.specs.Chunks.{chunked};
 

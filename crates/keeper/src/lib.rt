@@ -1,5 +1,7 @@
 // The keeper as C sees it: include/keeper.h has the same calls. Each returns a number of RULES 2, and a refusal leaves every lent byte and
 // every result variable as it was.
+#![tactic(auto)]
+
 ghost use Rattle.std.specs.Prelude.{◌≡◌};
 ghost use Rattle.shape.specs.Sizes.{size_answer, position_answer, count_answer};
 ghost use Rattle.kept.specs.Kept.{filled};

@@ -1,4 +1,6 @@
 // The letter of a record, written from a log's nodes.
+#![tactic(auto)]
+
 ghost use Rattle.std.specs.Prelude.{◌≡◌, []};
 ghost use Rattle.digest.specs.Digest.{digest_in};
 ghost use Rattle.wire.specs.Writers.{wrote, write_refused};

@@ -1,4 +1,6 @@
-// The digest of input that arrives in parts, as C sees it. The state lies behind a pointer, and the proofs of the three calls walk their few steps by hand.
+// The digest of input that arrives in parts, as C sees it. The state lies behind a pointer, and the three calls copy it in and out.
+#![tactic(auto)]
+
 ghost use Rattle.std.specs.Prelude.{◌≡◌};
 ghost use Rattle.kept.specs.Kept.{filled};
 ghost use Rattle.parts_c.specs.Parts.{parts_left, begin_call, add_call, end_call};

@@ -1,4 +1,6 @@
 // What a passage letter is: the request tested, its indexes parted between subtrees, its digests counted.
+#![tactic(auto)]
+
 pub mod count;
 pub mod request;
 

@@ -1,4 +1,6 @@
 // The digests of a passage letter, read from a log's nodes.
+#![tactic(auto)]
+
 ghost use Rattle.std.specs.Prelude.{◌≡◌, length};
 ghost use Rattle.digest.specs.Digest.{digest_in};
 ghost use Rattle.wire.specs.Slices.{written, joined};

@@ -1,4 +1,6 @@
 // A passage letter taken apart: its records, one behind the other, each where it stands in the letter.
+#![tactic(auto)]
+
 ghost use Rattle.std.specs.Prelude.{◌≡◌, ◌≤◌, length};
 ghost use Rattle.order.specs.Order.{first_number};
 ghost use Rattle.wire.specs.Lent.{lent};

@@ -1,4 +1,6 @@
 // What a request for a passage is refused with before anything is written.
+#![tactic(auto)]
+
 ghost use Rattle.std.specs.Prelude.{◌≡◌, ◌*◌, length};
 ghost use Rattle.order.specs.Order.{◌under◌, first_number};
 ghost use Rattle.digest.specs.Digest.{digest_in};

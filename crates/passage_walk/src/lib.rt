@@ -1,4 +1,6 @@
 // The walk of the folded tree for the indexes of a passage, the log's side beside the letter's.
+#![tactic(auto)]
+
 ghost use Rattle.std.specs.Prelude.{◌≡◌};
 ghost use Rattle.digest.specs.Digest.{digest_in};
 ghost use Rattle.nodes.specs.Nodes.{node_in};
@@ -33,7 +35,7 @@ struct Part {
 
 // Where a part begins: its first leaf, the position of its first node, and the numbers of the first leaf digest and the first given digest that the
 // letter has for it.
-#[derive(Drop)]
+#[derive(Clone, Copy)]
 struct Place {
     leaf: u64,
     node: u64,

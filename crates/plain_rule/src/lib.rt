@@ -1,1 +1,2 @@
 // Definitions and laws only: the root of a list of records, without positions.
+#![tactic(auto)]

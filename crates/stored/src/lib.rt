@@ -1,6 +1,8 @@
 // Stored nodes, read.
 //   inner: byte 00, digest; 33 bytes
 //   leaf: byte 01, digest, record length (4 bytes, big-endian), record; 37 + length bytes
+#![tactic(auto)]
+
 ghost use Rattle.std.specs.Prelude.{◌≡◌, ◌+◌, length};
 ghost use Rattle.wire.specs.Slices.{zeros};
 ghost use Rattle.wire.specs.Lent.{lent};

@@ -1,4 +1,6 @@
 // Stored nodes, written.
+#![tactic(auto)]
+
 ghost use Rattle.std.specs.Prelude.{◌≡◌};
 ghost use Rattle.digest.specs.Digest.{digest_in};
 ghost use Rattle.wire.specs.Writers.{wrote};

@@ -1,0 +1,29 @@
+-- `passage_fields::index_at` meets its contract: past the end a byte is 0, and so is the index; else the eight bytes are read from the place on.
+use mathlib.Core.Path.{◌≡◌, ap, sym, ◌∙◌}
+use mathlib.Core.List.{List}
+use Prim.Native.Nat.{ℕ, ◌<◌}
+use native.Mathlib.Nat.{add-zero}
+use native.Mathlib.Omega.{arith}
+use lib.ListN.{length}
+use Rattle.wire.specs.Numbers.{number}
+use Rattle.wire.specs.Slices.{part}
+use Rattle.wire.proofs.Parts.{part_beyond, part_drop}
+use Rattle.wire.proofs.Lists.{rest_all}
+use Rattle.passage.specs.Bytes.{index_at}
+use Rattle.passage_fields.proofs.index_at.Goals as goal
+
+past : (letter : List ℕ) (at : ℕ) → length letter < at → 0 ≡ index_at letter at
+unfolding index_at number
+past letter at h = sym (ap number (part_beyond at 8 letter (omega arith)))
+
+pub returns-then-letter-at : goal.returns-then-letter-at
+returns-then-letter-at c = past c.args.letter.now c.args.at (omega arith)
+
+pub returns : goal.returns
+unfolding index_at
+returns c =
+    let a = c.args in
+    c.read8.ensures
+    ∙ ap (λ (l : List ℕ). number (part 0 8 l)) (rest_all a.at a.letter.now)
+    ∙ ap number (part_drop 0 8 a.at a.letter.now)
+    ∙ ap (λ (k : ℕ). number (part k 8 a.letter.now)) (add-zero a.at)
