@@ -1,5 +1,7 @@
 // Stored nodes as C sees them: include/keeper.h has the same calls. Each returns a number of RULES 2, and a refusal leaves every lent byte and every
 // result variable as it was.
+#![tactic(auto)]
+
 ghost use Rattle.std.specs.Prelude.{◌≡◌};
 ghost use Rattle.kept.specs.Kept.{write_left};
 ghost use Rattle.stored_c.specs.Nodes.{store_leaf_call, store_inner_call, read_left, read_call};
