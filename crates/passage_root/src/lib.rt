@@ -1,4 +1,6 @@
 // The root worked out from a passage letter: the digests of its records, and the root that these make with the digests given.
+#![tactic(auto)]
+
 ghost use Rattle.std.specs.Prelude.{◌≡◌, ◌+◌, ◌^◌, ◌≤◌};
 ghost use Rattle.digest.specs.Digest.{digest_in};
 ghost use Rattle.passage.specs.Bytes.{record_at};

@@ -1,4 +1,6 @@
 // The passage letter for a list of indexes, written from a log's nodes.
+#![tactic(auto)]
+
 ghost use Rattle.std.specs.Prelude.{◌≡◌, [], length};
 ghost use Rattle.digest.specs.Digest.{digest_in};
 ghost use Rattle.wire.specs.Writers.{wrote, write_refused};
