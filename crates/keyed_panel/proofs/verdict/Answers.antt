@@ -3,31 +3,20 @@ use mathlib.Core.Path.{◌≡◌, ap, ◌∙◌}
 use mathlib.Core.List.{List}
 use Prim.Native.Nat.{ℕ}
 use lib.ListN.{take}
-use borrow.Author.Rules.{rules}
 use Rattle.letter_checker.specs.Outcome.{judged_keyed}
 use Rattle.letter_checker.proofs.Panel.{front_keyed}
-use Rattle.keyed_panel.proofs.verdict.Statement.{statement}
-use Rattle.keyed_panel.proofs.verdict.Tie as tie
+use Rattle.keyed_panel.proofs.verdict.Goals as goal
 
 same : (front whole : List ℕ) → front ≡ take 17501 whole → judged_keyed front ≡ judged_keyed whole
 same front whole e = ap judged_keyed e ∙ front_keyed whole
 
-returns : tie.Need-returns
+pub returns : goal.returns
 returns c =
     let d = c.decimal.ensures in
-    let j = c.before.before.judge-keyed.ensures in (
+    let j = c.judge_keyed.ensures in (
       d.0,
       (
         (λ whole e. let k = j ∙ same _ whole e in rw (← k) d.1.0),
         (λ whole e. let k = j ∙ same _ whole e in rw (← k) d.1.1),
       ),
     )
-
-pub verdict_spec : {M : Type 1} → statement M
-verdict_spec =
-    tie.close
-    (tie.spec
-    (λ c κs. search rules)
-    (λ c. search rules)
-    (λ c κs. search rules)
-    returns)
