@@ -13,10 +13,9 @@ same front whole e = ap judged_keyed e ∙ front_keyed whole
 pub returns : goal.returns
 returns c =
     let d = c.decimal.ensures in
-    let j = c.judge_keyed.ensures in (
-      d.0,
-      (
-        (λ whole e. let k = j ∙ same _ whole e in rw (← k) d.1.0),
-        (λ whole e. let k = j ∙ same _ whole e in rw (← k) d.1.1),
-      ),
-    )
+    let j = c.judge_keyed.ensures in
+    record {
+      within = d.in_bounds;
+      count = λ whole e. let k = j ∙ same _ whole e in rw (← k) d.len;
+      digits = λ whole e. let k = j ∙ same _ whole e in rw (← k) d.digits;
+    }

@@ -14,13 +14,9 @@ same front whole e = ap (judged digest_of) e ∙ front_judged digest_of whole
 pub returns : goal.returns
 returns c =
     let d = c.decimal.ensures in
-    let judged-at = c.before.before in
-    let plain = judged-at.before.before in
-    let input = plain.args.input.now in
-    let j = judged-at.judge.ensures ∙ ap (λ (mode : List ℕ). judged (digest_in mode) input) plain.plain-mode.ensures in (
-      d.0,
-      (
-        (λ whole e. let k = j ∙ same _ whole e in rw (← k) d.1.0),
-        (λ whole e. let k = j ∙ same _ whole e in rw (← k) d.1.1),
-      ),
-    )
+    let j = c.judge.ensures ∙ ap (λ (mode : List ℕ). judged (digest_in mode) c.args.input.now) c.plain-mode.ensures in
+    record {
+      within = d.in_bounds;
+      count = λ whole e. let k = j ∙ same _ whole e in rw (← k) d.len;
+      digits = λ whole e. let k = j ∙ same _ whole e in rw (← k) d.digits;
+    }
