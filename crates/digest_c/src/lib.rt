@@ -1,4 +1,6 @@
 // The digest for C: what tools in other languages link, as libdigest_c.a. digest_c.h has the same calls for C.
+#![tactic(auto)]
+
 ghost use Rattle.std.specs.Prelude.{◌≡◌, ◌++◌};
 ghost use Rattle.digest.specs.Digest.{digest_in};
 

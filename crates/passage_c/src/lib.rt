@@ -1,5 +1,7 @@
 // The passages as C sees them: include/keeper.h has the same calls. Each returns a number of RULES 2, and a refusal leaves every lent byte and every
 // result variable as it was.
+#![tactic(auto)]
+
 ghost use Rattle.std.specs.Prelude.{◌≡◌};
 ghost use Rattle.kept.specs.Kept.{write_left};
 ghost use Rattle.passage_c.specs.Calls.{write_passage_call, check_left, check_call, entry_left, entry_call, entries_left, entries_call, find_left, find_call};
