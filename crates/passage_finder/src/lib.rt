@@ -1,4 +1,6 @@
 // A passage letter compared with the log's own nodes and records, in the walk's order and then by rising index.
+#![tactic(auto)]
+
 ghost use Rattle.std.specs.Prelude.{◌≡◌};
 ghost use Rattle.digest.specs.Digest.{digest_in};
 ghost use Rattle.findings.specs.Outcome.{named};
