@@ -6,7 +6,7 @@ use native.Mathlib.Omega.{arith}
 use lib.ListN.{length, take, drop}
 use Rattle.views.specs.Passage.{Rising}
 use Rattle.wire.proofs.Lists.{rest_all}
-use Rattle.passage.specs.Bytes.{places, indexes_in, end_in}
+use Rattle.passage.specs.Bytes.{indexes_in, end_in}
 use Rattle.passage.specs.Digests.{worked_root}
 use Rattle.passage_fields.specs.declared.Fields.{Fields}
 use Rattle.passage_fields.specs.Fields.{taken_apart, fields_outcome}

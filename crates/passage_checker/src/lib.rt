@@ -1,4 +1,6 @@
 // A passage letter checked against a size and a root that the caller trusts.
+#![tactic(auto)]
+
 ghost use Rattle.std.specs.Prelude.{◌≡◌};
 ghost use Rattle.digest.specs.Digest.{digest_in};
 ghost use Rattle.passage_fields.specs.Fields.{taken_apart, fields_refused};

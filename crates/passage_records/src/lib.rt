@@ -1,4 +1,6 @@
 // The records of a passage letter that is checked, handed back: one of them, or all.
+#![tactic(auto)]
+
 ghost use Rattle.std.specs.Prelude.{◌≡◌, length};
 ghost use Rattle.digest.specs.Digest.{digest_in};
 ghost use Rattle.wire.specs.Lent.{lent};

@@ -11,9 +11,7 @@ use Rattle.wire.proofs.Lists.{rest_all}
 use Rattle.wire.proofs.Lent.{slice_part}
 use Rattle.passage_checker.specs.declared.Checked.{Checked}
 use Rattle.passage_checker.specs.Outcome.{CheckOutcome, checked, check_outcome, judged}
-use borrow.Author.Rules.{rules}
-use Rattle.passage_checker.proofs.judge.Statement.{statement}
-use Rattle.passage_checker.proofs.judge.Tie as tie
+use Rattle.passage_checker.proofs.judge.Goals as goal
 
 short : (digest : List ℕ → List ℕ) (input : List ℕ) → length input < 40 → 12 ≡ judged digest input
 unfolding judged
@@ -29,25 +27,10 @@ whole digest input size {r} h s e =
     rw (s, slice_part 8 32 input (omega arith), rest_all 40 input) at e in
     rw (le-ltb (length input) 40 h, judged) (ap (λ (o : CheckOutcome). o.number) f)
 
-returns : tie.Need-returns
-returns c = short _ c.before.before.args.input.now c.if1.true
+pub returns-then-input-lt40 : goal.returns-then-input-lt40
+returns-then-input-lt40 c = short _ c.args.input.now c.if-input-lt40.true
 
-returns-2 : tie.Need-returns-2
-returns-2 c =
-    whole _ c.before.before.before.before.before.before.args.input.now _ c.before.before.before.before.if1.false
-    c.before.before.before.read8.ensures c.check.ensures
-
-pub judge_spec : {M : Type 1} → statement M
-judge_spec =
-    tie.close
-    (tie.spec
-    returns
-    (λ c κs. search rules)
-    (λ c. search rules)
-    (λ c. search rules)
-    (λ c. search rules)
-    (λ c. search rules)
-    (λ c. search rules)
-    (λ c. search rules)
-    (λ c κs. search rules)
-    returns-2)
+pub returns : goal.returns
+returns c =
+    whole _ c.args.input.now _ c.if-input-lt40.false
+    c.read8-size.ensures c.check-c.ensures
