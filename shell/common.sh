@@ -47,12 +47,13 @@ demand_cc() {
 }
 
 # rt_libraries CRATE..: proves the crates where that is not done, and writes their archives, one after the other: each sees most of what those before it
-# see. An archive is written into the crate's own folder out, and is copied into target/staticlib.
+# see. An archive is written into the crate's own folder out, and is copied into target/staticlib. Its code is for every x86-64: it could not look for
+# what a newer one has.
 rt_libraries() {
     say "proving and building the library $1, which takes some minutes the first time"
     mkdir -p "$top/target/staticlib"
     for crate; do
-        (cd "$top/crates/$crate" && rt lib) >"$work/rt.log" 2>&1 </dev/null || { cat "$work/rt.log" >&2; die "$crate was not built"; }
+        (cd "$top/crates/$crate" && rt lib --cpu x86-64) >"$work/rt.log" 2>&1 </dev/null || { cat "$work/rt.log" >&2; die "$crate was not built"; }
         cp "$top/crates/$crate/out/lib$crate.a" "$top/target/staticlib/lib$crate.a" || die "cannot copy the library $crate"
     done
 }

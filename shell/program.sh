@@ -6,16 +6,8 @@ run=$top/target/run
 say() { echo "${0##*/}: $*" >&2; }
 die() { say "$*"; exit 2; }
 
-# keep_program NAME SUM: what rt has just proved and built of that program into its crate's folder, from sources of that sum, is the one that is run
-keep_program() {
-    mkdir -p "$top/target/bin"
-    cp "$top/crates/$1/out/$1" "$top/target/bin/$1.new" || die "$1 was not built"
-    mv "$top/target/bin/$1.new" "$top/target/bin/$1"
-    was_built "target/bin/$1" "$2"
-}
-
-# build NAME: proves and builds a program where that is not done; ends the script with status 2 where that fails. What builds it runs it too, on no input:
-# each of our programs ends there with status 0.
+# build NAME: proves and builds a program where that is not done, for every x86-64; ends the script with status 2 where that fails. What builds it runs it
+# too, on no input: each of our programs ends there with status 0.
 build() {
     program=$top/target/bin/$1
     # shellcheck disable=SC2086
@@ -29,8 +21,11 @@ build() {
     # shellcheck disable=SC2086
     sum=$(sum_of $proved_sources)
     say "proving and building $1, which takes some minutes the first time"
-    (cd "$top/crates/$1" && rt run) >"$work/rt.log" 2>&1 </dev/null || { cat "$work/rt.log" >&2; die "$1 was not built"; }
+    (cd "$top/crates/$1" && rt run --cpu x86-64) >"$work/rt.log" 2>&1 </dev/null || { cat "$work/rt.log" >&2; die "$1 was not built"; }
     copy_runner
-    keep_program "$1" "$sum"
+    mkdir -p "$top/target/bin"
+    cp "$top/crates/$1/out/$1" "$program.new" || die "$1 was not built"
+    mv "$program.new" "$program"
+    was_built "target/bin/$1" "$sum"
     exec 9<&-
 }

@@ -131,7 +131,7 @@ class Scripts(HostTest):
         for ran in runs:
             out, err = ran.communicate()
             self.assertEqual((ran.returncode, out), (0, b"12\n"), err)
-        self.assertEqual((self.folder / "ran").read_text(), "panel: run\n")
+        self.assertEqual((self.folder / "ran").read_text(), "panel: run --cpu x86-64\n")
 
     def test_closed_streams(self):
         """Closed standard streams of the scripts: the log has the record or nothing, and a verdict that could not be written is status 2."""
@@ -190,7 +190,7 @@ class Scripts(HostTest):
             ran = subprocess.run([copy / "bin" / "panel"], stdin=subprocess.DEVNULL, capture_output=True, check=False,
                                  env={**PLAIN, "PATH": f"{tools}:{PLAIN['PATH']}"})
             self.assertEqual((ran.returncode, ran.stdout), (0, b"12\n"), ran.stderr)
-            self.assertEqual((self.folder / "ran").read_text(), builds * "panel: run\n")
+            self.assertEqual((self.folder / "ran").read_text(), builds * "panel: run --cpu x86-64\n")
 
 
 @unittest.skipIf(CHECKED, "tried once, without sanitizers")
