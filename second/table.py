@@ -25,9 +25,9 @@ OTHERS = {
     "part(input, row, 15),",
     "let letter = part(input, row, 15);",
     "order = 2 ∷ 6 ∷ 3 ∷ 10 ∷ 7 ∷ 0 ∷ 4 ∷ 13 ∷ 1 ∷ 11 ∷ 12 ∷ 5 ∷ 9 ∷ 14 ∷ 15 ∷ 8 ∷ []",
-    "3 7 11 15 (getD m 6 0) (getD m 7 0)",
-    "mixedAt (mixedAt (mixedAt (mixedAt s 0 5 10 15 (getD m 8 0) (getD m 9 0))",
-    "3 4 9 14 (getD m 14 0) (getD m 15 0)",
+    "3 7 11 15 (slice_index m 6) (slice_index m 7)",
+    "mixed_at (mixed_at (mixed_at (mixed_at s 0 5 10 15 (slice_index m 8) (slice_index m 9))",
+    "3 4 9 14 (slice_index m 14) (slice_index m 15)",
     "size 0 0 ∷ size 1 1 ∷ size 2 3 ∷ size 3 4 ∷ size 4 7 ∷ size 5 8 ∷ size 6 10 ∷ size 7 11 ∷ size 8 15",
     "digits[2 * i + 1] = digit[bytes[i] & 15];",
     "uint8_t below[1 << 15];",
@@ -43,7 +43,7 @@ SAID = {
     "-- What writer, checker and finder promise together, over a log's nodes and by the plain rule; and number 15, which is struck.",
 }
 # Lines of each kind that use it, which have to be noticed.
-PLANTED = ("return write_refused(15);", "∷ 15 if itemCount n i above 32", "KEEPER_TOO_MANY_ITEMS = 15,", "case 15:", "15 KEEPER_TOO_MANY_ITEMS",
+PLANTED = ("return write_refused(15);", "∷ 15 if item_count n i above 32", "KEEPER_TOO_MANY_ITEMS = 15,", "case 15:", "15 KEEPER_TOO_MANY_ITEMS",
            "yield 15", "const TOO_MANY: u32 = 15;", "6, 15 (either buffer). */", "return 0x0F;", "KEEPER_OTHER = 15, /* 15 is struck */")
 
 
