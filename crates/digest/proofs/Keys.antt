@@ -13,8 +13,7 @@ use Rattle.wire.specs.Slices.{zeros, part, splice, written}
 use Rattle.wire.proofs.Parts.{part_front, part_past, part_whole}
 use Rattle.wire.proofs.Splices.{written_fits}
 use Rattle.blake.specs.Blake.{keyed_hash, hash_in}
-use Rattle.digest.specs.declared.Moded.{Moded}
-use Rattle.digest.specs.Modes.{number_in, key_in, keyed_mode, key_refused, key_order, key_answer}
+use Rattle.digest.specs.Modes.{Moded, number_in, key_in, keyed_mode, key_refused, key_order, key_answer}
 use Rattle.digest.specs.Digest.{digest_in}
 use Rattle.digest.specs.Digest.Inside.{opened}
 

@@ -9,8 +9,10 @@ use borrow.Author.Tests.{lt-ltb, le-ltb}
 use lib.ListN.{length, take, drop}
 use lib.Seq.{length-take-le, take_all, take-add, take_at, drop_at}
 use Rattle.wire.proofs.Lists.{rest_all}
-use Rattle.digest.specs.declared.Moded.{Moded}
-use Rattle.digest.specs.Modes.{keyed_mode, key_answer}
+use Rattle.std.specs.Prelude.{Result, Ok, Err}
+use Rattle.refusals.specs.declared.Refused.{Refused}
+use Rattle.refusals.proofs.Laws.{number_above}
+use Rattle.digest.specs.Modes.{Moded, keyed_mode, moded, key_answer}
 use Rattle.digest.specs.Digest.{digest_in}
 use Rattle.digest.specs.UnderKey.{under_key}
 use Rattle.digest.proofs.Keys.{key_taken}
@@ -25,13 +27,22 @@ module _ (judged : (List ℕ → List ℕ) → List ℕ → ℕ) where
   unfolding under_key
   under_short input h = rw (lt-ltb (length input) 32 h, under_key)
 
+  -- 32 bytes are a key
+  pub key_there : (input : List ℕ) {k : Result (List ℕ) Refused} {why : Refused} → 32 ≤ length input → moded k ≡ key_answer (take 32 input)
+      → k ≡ Err why → ⊥
+  key_there input {k} {why} h e f =
+      let n : length (take 32 input) ≡ 32 = length-take-le 32 input h in
+      absurd (omega (arith, number_above why, ap (λ (a : Moded). a.number) (sym (ap moded f) ∙ e ∙ key_taken (take 32 input) n)))
+
   -- what is judged of the rest in the mode that the key is answered with, as slices give the two
-  pub under_read : (input : List ℕ) {k : Moded} {r : ℕ} → 32 ≤ length input → k ≡ key_answer (take 32 input)
-      → r ≡ judged (digest_in k.mode) (take (length input - 32) (drop 32 input)) → r ≡ under_key judged input
-  under_read input {k} h e f =
+  pub under_read : (input : List ℕ) {k : Result (List ℕ) Refused} {mode : List ℕ} {r : ℕ} → 32 ≤ length input
+      → moded k ≡ key_answer (take 32 input) → k ≡ Ok mode
+      → r ≡ judged (digest_in mode) (take (length input - 32) (drop 32 input)) → r ≡ under_key judged input
+  under_read input {k} {mode} h e g f =
       let n : length (take 32 input) ≡ 32 = length-take-le 32 input h in
       f
-      ∙ ap₂ (λ (m x : List ℕ). judged (digest_in m) x) (ap (λ (a : Moded). a.mode) (e ∙ key_taken (take 32 input) n)) (rest_all 32 input)
+      ∙ ap₂ (λ (m x : List ℕ). judged (digest_in m) x)
+      (ap (λ (a : Moded). a.mode) (sym (ap moded g) ∙ e ∙ key_taken (take 32 input) n)) (rest_all 32 input)
       ∙ sym (under_taken input h)
 
   -- where the first k bytes are enough to be judged, 32 more are enough with a key before them

@@ -4,19 +4,14 @@
 
 ghost use Rattle.std.specs.Prelude.{◌≡◌, ◌++◌};
 ghost use Rattle.digest.specs.Digest.{digest_in};
-ghost use Rattle.digest.specs.Modes.{plain_mode, key_answer, number_in, key_in};
+ghost use Rattle.digest.specs.Modes.{plain_mode, moded, key_answer, number_in, key_in};
+
+use refusals::Refused;
 
 // A digest, by value.
-#[derive(Clone, Copy)]
+#[derive(Clone, Copy, PartialEq, Eq)]
 pub struct Digest {
     pub bytes: [u8; 32],
-}
-
-// The answer to a key: its number, and the mode.
-#[derive(Drop)]
-pub struct Moded {
-    pub number: u32,
-    pub mode: [u8; 36],
 }
 
 // The plain mode.
@@ -26,19 +21,18 @@ pub fn plain() -> [u8; 36]
     [0u8; 36]
 }
 
-// The keyed mode of a key of 32 bytes: 24 for any other. What a refusal hands back is keyed too, under a key of zeros: a caller that forgets the
-// number does not get a plain log.
-pub fn keyed(key: &[u8]) -> Moded
-    ensures { result ≡ key_answer key.now }
+// The keyed mode of a key of 32 bytes: 24 for any other. A refusal has no mode, so that a caller that forgets it does not get a plain log.
+pub fn keyed(key: &[u8]) -> Result<[u8; 36], Refused>
+    ensures { moded result ≡ key_answer key.now }
 {
     let mut mode = [0u8; 36];
     mode[0] = 1;
     if key.len() != 32 {
-        return Moded { number: 24, mode };
+        return Err(Refused::KeyLength);
     }
     let bytes = wire::read_digest(key, 0);
     wire::write_digest(&mut mode, 4, bytes);
-    Moded { number: 0, mode }
+    Ok(mode)
 }
 
 // A mode's number and key.
@@ -61,9 +55,7 @@ fn apart(mode: &[u8; 36]) -> Taken
 pub fn digest_of(mode: &[u8; 36], bytes: &[u8]) -> Digest
     ensures { result.bytes ≡ digest_in mode.now bytes.now }
 {
-    let m = apart(mode);
-    let number = m.number;
-    let key = m.key;
+    let Taken { number, key } = apart(mode);
     Digest {
         bytes: blake::hash(number, &key, bytes),
     }
@@ -73,9 +65,7 @@ pub fn digest_of(mode: &[u8; 36], bytes: &[u8]) -> Digest
 pub fn digest_of_pair(mode: &[u8; 36], left: Digest, right: Digest) -> Digest
     ensures { result.bytes ≡ digest_in mode.now (left.bytes ++ right.bytes) }
 {
-    let m = apart(mode);
-    let number = m.number;
-    let key = m.key;
+    let Taken { number, key } = apart(mode);
     let l = left.bytes;
     let r = right.bytes;
     Digest {

@@ -4,11 +4,11 @@ use mathlib.Core.Logic.{inl, inr, by_cases}
 use Prim.Native.Nat.{ℕ, suc, ◌+◌, ◌^◌, ◌≤◌, ◌<◌}
 use native.Mathlib.Decide.{dec_le}
 use native.Mathlib.Omega.{arith}
-use Rattle.shape.specs.declared.Counted.{Counted}
-use Rattle.shape.specs.declared.Counted.TheVariants.{Leaves, NoCount}
-use Rattle.shape.specs.declared.Sized.{Sized}
-use Rattle.shape.specs.declared.Sized.TheVariants.{Size, TooMany}
-use Rattle.shape.specs.Answers.{Answer, done, sized, counted}
+use Rattle.std.specs.Prelude.{Result, Ok, Err}
+use Rattle.refusals.specs.declared.Refused.{Refused}
+use Rattle.refusals.specs.Numbers.{number_of}
+use Rattle.refusals.proofs.Laws.{number_above}
+use Rattle.shape.specs.Answers.{Answer, done, answered}
 use Rattle.shape.specs.Sizes.{size_of, size_answer, count_answer, trailing_ones, leaves}
 use Rattle.shape.proofs.Sizes.{size_suc, size_ge, size_le, size_answer_lem, size_refused}
 use Rattle.shape.proofs.Counts.{count_size, count_cases, count_done}
@@ -41,24 +41,31 @@ counts_known size h = elim (count_cases size) [
   | inr (f, g) ↦ absurd (h (ap (λ (a : Answer). a.number) f))
 ]
 
-pub counts_leaves : {r : Counted} {size n : ℕ} → counted r ≡ count_answer size → r ≡ Leaves n → Counts size n
-counts_leaves {r} {size} {n} e l = counts_done size n (sym e ∙ ap counted l)
+pub counts_leaves : {r : Result ℕ Refused} {size n : ℕ} → answered r ≡ count_answer size → r ≡ Ok n → Counts size n
+counts_leaves {r} {size} {n} e l = counts_done size n (sym e ∙ ap answered l)
 
-pub counts_none : {r : Counted} (size : ℕ) → counted r ≡ count_answer size → r ≡ NoCount → (count_answer size).number ≡ 1
-counts_none size e l = ap (λ (a : Answer). a.number) (sym e ∙ ap counted l)
+-- where there is none, the refusal is 1
+pub counts_none : {r : Result ℕ Refused} {why : Refused} (size : ℕ) → answered r ≡ count_answer size → r ≡ Err why
+    → ((count_answer size).number ≡ 1) × (number_of why ≡ 1)
+counts_none {r} {why} size e l =
+    let n : number_of why ≡ (count_answer size).number = ap (λ (a : Answer). a.number) (sym (ap answered l) ∙ e) in
+    elim (count_cases size) [
+      | inl (m, p, f, g) ↦ absurd (omega (arith, number_above why, n, ap (λ (a : Answer). a.number) g))
+      | inr (f, g) ↦ let z : (count_answer size).number ≡ 1 = ap (λ (a : Answer). a.number) f in (z, n ∙ z)
+    ]
 
--- the other way round: the size of a leaf count, and that there is none
-module _ {r : Sized} (n : ℕ) (e : sized r ≡ size_answer n) where
-  pub size_known : {v : ℕ} → r ≡ Size v → (n ≤ 2 ^ 32) × (v ≡ size_of n)
+-- the other way round: the size of a leaf count, and that there is none, which is 2
+module _ {r : Result ℕ Refused} (n : ℕ) (e : answered r ≡ size_answer n) where
+  pub size_known : {v : ℕ} → r ≡ Ok v → (n ≤ 2 ^ 32) × (v ≡ size_of n)
   size_known f =
-      by_cases (dec_le n (2 ^ 32)) (λ h. (h, ap (λ (a : Answer). a.value) (sym (ap sized f) ∙ e ∙ size_answer_lem n h)))
-      (λ h. absurd (omega (arith, ap (λ (a : Answer). a.number) (sym (ap sized f) ∙ e ∙ size_refused n (omega arith)))))
+      by_cases (dec_le n (2 ^ 32)) (λ h. (h, ap (λ (a : Answer). a.value) (sym (ap answered f) ∙ e ∙ size_answer_lem n h)))
+      (λ h. absurd (omega (arith, ap (λ (a : Answer). a.number) (sym (ap answered f) ∙ e ∙ size_refused n (omega arith)))))
 
-  pub size_none : r ≡ TooMany → 2 ^ 32 < n
-  size_none f =
+  pub size_none : {why : Refused} → r ≡ Err why → (2 ^ 32 < n) × (number_of why ≡ 2)
+  size_none {why} f =
       by_cases (dec_le n (2 ^ 32))
-      (λ h. absurd (omega (arith, ap (λ (a : Answer). a.number) (sym (ap sized f) ∙ e ∙ size_answer_lem n h))))
-      (λ h. omega arith)
+      (λ h. absurd (omega (arith, number_above why, ap (λ (a : Answer). a.number) (sym (ap answered f) ∙ e ∙ size_answer_lem n h))))
+      (λ h. (omega arith, ap (λ (a : Answer). a.number) (sym (ap answered f) ∙ e ∙ size_refused n (omega arith))))
 
 module _ {size n m : ℕ} (k : Counts size n) (e : m ≡ trailing_ones n) where
   pub grown_size : size_of (suc (leaves size)) ≡ size + (1 + m)

@@ -2,34 +2,15 @@
 #![tactic(auto)]
 
 ghost use Rattle.std.specs.Prelude.{◌≡◌, ℕ, ◌+◌, ◌%◌, ◌^◌, ◌≤◌, ◌<◌};
-ghost use Rattle.shape.specs.Answers.{sized, placed, counted};
+ghost use Rattle.shape.specs.Answers.{answered};
 ghost use Rattle.shape.specs.Sizes.{size_of, size_answer, position_answer, count_answer, trailing_ones, height_of};
+
+use refusals::Refused;
 
 // The most leaves of a log, 2^32, and their size.
 pub const MOST_LEAVES: u64 = 4294967296;
 
 pub const MOST_NODES: u64 = 8589934591;
-
-// The size of a count of leaves.
-#[derive(Drop)]
-pub enum Sized {
-    Size(u64),
-    TooMany,
-}
-
-// The position of a leaf.
-#[derive(Drop)]
-pub enum Placed {
-    At(u64),
-    NoLeaf,
-}
-
-// The leaf count of a size.
-#[derive(Drop)]
-pub enum Counted {
-    Leaves(u64),
-    NoCount,
-}
 
 // 2n minus the ones in n.
 fn twice_less_ones(n: u64) -> u64
@@ -47,24 +28,24 @@ pub fn power(h: u32) -> u64
 }
 
 // The size of n leaves. 2 above 2^32.
-pub fn size_of(n: u64) -> Sized
-    ensures { sized result ≡ size_answer n }
+pub fn size_of(n: u64) -> Result<u64, Refused>
+    ensures { answered result ≡ size_answer n }
 {
     if n <= MOST_LEAVES {
-        Sized::Size(twice_less_ones(n))
+        Ok(twice_less_ones(n))
     } else {
-        Sized::TooMany
+        Err(Refused::LogFull)
     }
 }
 
 // Where leaf i stands. 5 unless i is below 2^32.
-pub fn leaf_position(i: u64) -> Placed
-    ensures { placed result ≡ position_answer i }
+pub fn leaf_position(i: u64) -> Result<u64, Refused>
+    ensures { answered result ≡ position_answer i }
 {
     if i < MOST_LEAVES {
-        Placed::At(twice_less_ones(i))
+        Ok(twice_less_ones(i))
     } else {
-        Placed::NoLeaf
+        Err(Refused::NoSuchLeaf)
     }
 }
 
@@ -82,17 +63,15 @@ fn near(size: u64) -> u64
 }
 
 // The number of leaves, up to 2^32, whose size this is: of 32 counts in a row, five bits one after the other. 1 where there is none.
-pub fn leaf_count(size: u64) -> Counted
-    ensures { counted result ≡ count_answer size }
+pub fn leaf_count(size: u64) -> Result<u64, Refused>
+    ensures { answered result ≡ count_answer size }
 {
     if MOST_NODES < size {
-        return Counted::NoCount;
+        return Err(Refused::NoSuchSize);
     }
     let mut n = near(size);
     let mut rest = size - twice_less_ones(n);
-    let mut k: u32 = 5;
-    while 0 < k {
-        k = k - 1;
+    for k in (0..5).rev() {
         let span = power(k);
         let nodes = 2 * span - 1;
         if nodes <= rest {
@@ -101,9 +80,9 @@ pub fn leaf_count(size: u64) -> Counted
         }
     }
     if rest == 0 {
-        Counted::Leaves(n)
+        Ok(n)
     } else {
-        Counted::NoCount
+        Err(Refused::NoSuchSize)
     }
 }
 

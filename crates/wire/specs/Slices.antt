@@ -1,5 +1,5 @@
 -- Runs of bytes: read at a place, one or several in a row; joined; written at a place; compared.
-use Rattle.std.specs.Prelude.{true, false, ◌≡◌, ℕ, zero, suc, ◌+◌, leb, length, take, drop, replicate}
+use Rattle.std.specs.Prelude.{Bool, true, false, ◌≡◌, ℕ, zero, suc, ◌+◌, leb, length, take, drop, replicate}
 use mathlib.Core.List.{List, [], ◌∷◌, ◌++◌, List-discrete}
 use Rattle.std.proofs.Math.Decide.{ℕ_discrete}
 
@@ -33,6 +33,11 @@ splice at xs d = take at d ++ xs ++ drop (at + length xs) d
 -- what d is after xs is written at a place: a write that does not fit wholly changes nothing
 unfoldable pub written : ℕ → List ℕ → List ℕ → List ℕ
 written at xs d = elim (leb (at + length xs) (length d)) [ true ↦ splice at xs d | false ↦ d ]
+
+-- a flag as a number
+abbrev pub bit : Bool → ℕ
+bit true = 1
+bit false = 0
 
 -- 0 where two runs are the same, else 1
 unfoldable pub differ : List ℕ → List ℕ → ℕ

@@ -4,26 +4,16 @@
 
 ghost use Rattle.std.specs.Prelude.{◌≡◌, [], ◌∷◌, ◌≤◌, length, drop, get_or};
 ghost use Rattle.wire.specs.Numbers.{be, number};
-ghost use Rattle.wire.specs.Slices.{zeros, part, written, differ};
+ghost use Rattle.wire.specs.Slices.{zeros, part, written, bit, differ};
 
 // The most bytes of a record.
 pub const LONGEST_RECORD: usize = 16384;
-
-// What a writer of one thing answers: the number, and the length of what it wrote, 0 for a refusal.
-#[derive(Drop)]
-pub struct Written {
-    pub number: u32,
-    pub length: usize,
-}
 
 // Reads the byte at a place.
 pub fn read_byte(s: &[u8], at: usize) -> u8
     ensures { result ≡ get_or s.now at 0 }
 {
-    if at < s.len() {
-        return s[at];
-    }
-    0
+    s.get(at).copied().unwrap_or(0)
 }
 
 // Reads the number in the two bytes from a place on.
@@ -94,11 +84,7 @@ fn tail<'a>(s: &'a [u8], at: usize) -> &'a [u8]
 fn clear(d: &mut [u8])
     ensures { d.new ≡ zeros (length d.old) }
 {
-    let mut i = 0;
-    while i < d.len() {
-        d[i] = 0;
-        i += 1;
-    }
+    d.fill(0);
 }
 
 // The number that at most four bytes are.
@@ -107,10 +93,8 @@ fn value_of(b: &[u8]) -> u32
     ensures { result ≡ number b.now }
 {
     let mut n: u32 = 0;
-    let mut i = 0;
-    while i < b.len() {
-        n = n * 256 + b[i] as u32;
-        i += 1;
+    for &x in b {
+        n = n * 256 + x as u32;
     }
     n
 }
@@ -177,29 +161,25 @@ fn spell(d: &mut [u8], n: u64)
     ensures { d.new ≡ be (length d.old) n }
 {
     let mut left = n;
-    let mut i = d.len();
-    while 0 < i {
-        i -= 1;
+    for i in (0..d.len()).rev() {
         d[i] = (left % 256) as u8;
         left = left / 256;
     }
 }
 
-// Compares two runs: 0 where they are the same, else 1. It looks at every byte, which the compiler makes vector code.
-pub fn differ(a: &[u8], b: &[u8]) -> u8
-    ensures { result ≡ differ a.now b.now }
+// Whether two runs differ. It looks at every byte, which the compiler makes vector code.
+pub fn differ(a: &[u8], b: &[u8]) -> bool
+    ensures { bit result ≡ differ a.now b.now }
 {
     if a.len() != b.len() {
-        return 1;
+        return true;
     }
     let n = a.len();
-    let mut found: u8 = 0;
-    let mut i = 0;
-    while i < n {
+    let mut found = false;
+    for i in 0..n {
         if a[i] != b[i] {
-            found = 1;
+            found = true;
         }
-        i += 1;
     }
     found
 }

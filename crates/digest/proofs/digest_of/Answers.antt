@@ -9,7 +9,7 @@ use Rattle.digest.proofs.digest_of.Goals as goal
 pub returns : goal.returns
 returns c =
     let a = c.args in
-    let m = c.apart-m.ensures in
+    let m = c.apart-number.ensures in
     c.hash.ensures
     ∙ ap₂ (λ (n : ℕ) (k : List ℕ). hash_in n k a.bytes.now) m.0 m.1
     ∙ opened a.mode.now a.bytes.now

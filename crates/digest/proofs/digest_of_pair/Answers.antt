@@ -9,7 +9,7 @@ use Rattle.digest.proofs.digest_of_pair.Goals as goal
 pub returns : goal.returns
 returns c =
     let a = c.args in
-    let m = c.apart-m.ensures in
+    let m = c.apart-number.ensures in
     let both = a.left.bytes ++ a.right.bytes in
     c.hash_pair.ensures
     ∙ ap₂ (λ (n : ℕ) (k : List ℕ). hash_in n k both) m.0 m.1

@@ -7,8 +7,7 @@ use lib.ListN.{length}
 use Rattle.order.proofs.Laws.{refuses, passes}
 use Rattle.wire.specs.Slices.{part}
 use Rattle.wire.proofs.Parts.{part_whole}
-use Rattle.digest.specs.Modes.{key_order, key_answer}
-use Rattle.digest.specs.declared.Moded.{Moded}
+use Rattle.digest.specs.Modes.{Moded, key_order, key_answer}
 use Rattle.digest.proofs.Keys.{key_written}
 use borrow.Author.Rules.{rules}
 use Rattle.digest.proofs.keyed.Goals as goal

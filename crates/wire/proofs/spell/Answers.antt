@@ -1,6 +1,5 @@
--- `wire::spell` meets its contract. The loop's invariant: the bytes of what is left of the number, and behind them those that are
--- written, are the bytes of the number.
-use mathlib.Core.Path.{◌≡◌, refl, sym, ◌∙◌}
+-- `wire::spell` meets its contract: the bytes of what is left of the number, and behind them those that are written, are the bytes of the number.
+use mathlib.Core.Path.{◌≡◌, sym, ◌∙◌}
 use mathlib.Core.List.{List, ◌++◌, append-nil}
 use Prim.Native.Nat.{ℕ, zero, suc, ◌-◌, ◌/◌, ◌%◌, ◌≤◌, ◌<◌}
 use native.Mathlib.Nat.{not-suc-le-zero}
@@ -21,16 +20,15 @@ one_more d n (suc i) h k =
     (sym (append_snoc (be i (n / 256)) (n % 256) (drop (suc i) d)))
 
 pub loop-i-init : goal.loop-i-init
-loop-i-init c = (omega arith, refl, rw (drop-length, append-nil))
+loop-i-init c = rw (drop-length, append-nil)
 
 pub loop-i-preserved : goal.loop-i-preserved
 loop-i-preserved c =
     let l = c.loop-i in
-    let e = one_more l.d l.left l.i (omega arith) (omega arith) in
-    (simp length-set (omega arith), simp length-set l.invariant.1, e ∙ l.invariant.2)
+    let e = one_more l.d l.left l.i (omega arith) (omega (arith, l.auto.d)) in e ∙ l.invariant
 
 pub returns : goal.returns
 unfolding be
 returns c =
     let e : c.loop-i.i ≡ 0 = omega arith in
-    rw e at c.loop-i.invariant.2
+    rw e at c.loop-i.invariant

@@ -1,5 +1,5 @@
--- `wire::number_of` meets its contract. The loop's invariant: n is the number of the bytes passed, and below 256 ^ i, so it fits.
-use mathlib.Core.Path.{◌≡◌, refl, sym, ap, ◌∙◌}
+-- `wire::value_of` meets its contract: n is the number of the bytes passed, and below 256 ^ i, so it fits.
+use mathlib.Core.Path.{◌≡◌, refl, sym, ◌∙◌}
 use mathlib.Core.List.{List}
 use Prim.Native.Nat.{ℕ, ◌+◌, ◌*◌, ◌^◌, ◌<◌}
 use native.Mathlib.Nat.{pow-suc, pow-le-pow_right, lt_of_lt_of_le}
@@ -7,7 +7,7 @@ use native.Mathlib.Numerals.{add-one}
 use native.Mathlib.Omega.{arith}
 use lib.Arith.{digits_lt}
 use lib.ListN.{length, take, get_or}
-use lib.Seq.{take-suc, take_all}
+use lib.Seq.{take-suc}
 use Rattle.wire.specs.Numbers.{number}
 use Rattle.wire.proofs.Numbers.{number_snoc}
 use Rattle.wire.proofs.value_of.Goals as goal
@@ -22,33 +22,23 @@ room : (n i b : ℕ) → n < 256 ^ i → b < 256 → i < 4 → n * 256 + b < 2 ^
 room n i b h l k =
     lt_of_lt_of_le (below_more n i b h l) (pow-le-pow_right {n = 256} (omega arith) {i = i + 1} {j = 4} (omega arith))
 
-pub loop-i-init : goal.loop-i-init
+pub loop-x-init : goal.loop-x-init
 unfolding number
-loop-i-init c = (omega arith, refl, omega arith)
+loop-x-init c = (refl, omega arith)
 
 pub overflow_mul-n : goal.overflow_mul-n
 overflow_mul-n c =
-    let p = c.requires in
-    let l = c.loop-i in
-    omega (arith, room l.n l.i 0 l.invariant.2 (omega arith) (omega arith))
-
-pub overflow_cast-n : goal.overflow_cast-n
-overflow_cast-n c = omega (arith, c.type_inv.b c.loop-i.i)
+    let l = c.loop-x in
+    omega (arith, room l.n l.x-index 0 l.invariant.1 (omega arith) (omega (arith, c.requires)))
 
 pub overflow_add-n : goal.overflow_add-n
 overflow_add-n c =
-    let p = c.requires in
-    let l = c.loop-i in
-    record { fits = room l.n l.i _ l.invariant.2 (c.type_inv.b l.i).fits (omega arith) }
+    let l = c.loop-x in
+    record { fits = room l.n l.x-index _ l.invariant.1 (c.type_inv.b l.x-index).fits (omega (arith, c.requires)) }
 
-pub loop-i-preserved : goal.loop-i-preserved
-loop-i-preserved c =
+pub loop-x-preserved : goal.loop-x-preserved
+loop-x-preserved c =
     let b = c.args.b.now in
-    let l = c.loop-i in
-    let k = (c.type_inv.b l.i).fits in
-    (omega arith, sym (one_more b l.i (omega arith) ∙ rw (← l.invariant.1)), below_more l.n l.i _ l.invariant.2 k)
-
-pub returns : goal.returns
-returns c =
-    let b = c.args.b.now in
-    c.loop-i.invariant.1 ∙ ap number (take_all c.loop-i.i b (omega arith))
+    let l = c.loop-x in
+    let k = (c.type_inv.b l.x-index).fits in
+    (sym (one_more b l.x-index (omega arith) ∙ rw (← l.invariant.0)), below_more l.n l.x-index _ l.invariant.1 k)

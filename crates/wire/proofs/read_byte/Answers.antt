@@ -1,7 +1,0 @@
--- `wire::read_byte` meets its contract: past the end `get_or` gives 0.
-use mathlib.Core.Path.{sym}
-use lib.ListN.{get_or-eq_default}
-use Rattle.wire.proofs.read_byte.Goals as goal
-
-pub returns : goal.returns
-returns c = sym (get_or-eq_default c.args.s.now 0 c.if-at-s.false)
