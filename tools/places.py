@@ -96,22 +96,22 @@ def twins(files):
 
 
 def travelling(files):
-    """Three parameters that stand together in three functions or more."""
-    seen = {}
+    """Two parameters that stand in three functions or more, and in these alone: wherever one is, the other is."""
+    where = {}
     for path, text in files:
         for name, whole in functions(text):
             head, _ = parted(whole)
-            at = head.find('(')
-            parameters = re.findall(r'(\w+): ([^,()]+(?:\([^)]*\))?)', head[at:head.find(')\n') if ')\n' in head else None])
-            row = [f'{p}: {t.strip()}' for p, t in parameters]
-            for k in range(len(row) - 1):
-                seen.setdefault((row[k], row[k + 1]), []).append(f'{path}: {name}')
+            inside = head[head.find('(') + 1:]
+            for parameter, kind in re.findall(r'(\w+): ([^,()]+?)(?=,|\)|\n)', inside.split('\n    requires')[0].split('\n    ensures')[0]):
+                where.setdefault(f'{parameter}: {kind.strip()}', set()).add(f'{path}: {name}')
     count = 0
-    for pair, where in sorted(seen.items()):
-        if len(where) >= 3:
-            count += 1
-            print(f'5 {pair[0]}, {pair[1]}: {len(where)} functions')
-    return {('5', 'two parameters that stand side by side in three functions or more'): count}
+    names = sorted(where)
+    for i, one in enumerate(names):
+        for two in names[i + 1:]:
+            if len(where[one]) >= 3 and where[one] == where[two]:
+                count += 1
+                print(f'5 {one}, {two}: {len(where[one])} functions')
+    return {('5', 'two parameters that stand in three functions or more, and in these alone'): count}
 
 
 def by_bodies(files):
