@@ -28,13 +28,6 @@ apart_right l r x y z =
     ]
 
 module _ (a b : List ℕ) where
-  pub above_none : (k : ℕ) (d : Diff) → k ≡ 0 → d ≡ above k a b d
-  above_none k d e = rw e
-
-  pub above_some : (k : ℕ) (d e : Diff) → k ≢ 0 → above k a b d ≡ above k a b e
-  above_some zero d e h = absurd (h refl)
-  above_some (suc k) d e h = refl
-
   -- two lists with one input more in front
   pub above_is : (xs ys : List (List ℕ)) → above (differ a b) a b (difference xs ys) ≡ difference (a ∷ xs) (b ∷ ys)
   above_is xs ys = elim (decided a b) [
