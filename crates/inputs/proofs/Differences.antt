@@ -1,12 +1,12 @@
 -- Two inputs side by side: how they differ by their halves, and the first difference of two lists with them in front.
-use mathlib.Core.Path.{◌≡◌, refl, sym, ap, ◌∙◌}
+use mathlib.Core.Path.{◌≡◌, sym, ap, ◌∙◌}
 use mathlib.Core.Logic.{◌≢◌}
 use mathlib.Core.List.{List, ◌∷◌, ◌++◌}
-use Prim.Native.Nat.{ℕ, zero, suc}
+use Prim.Native.Nat.{ℕ}
 use lib.ListN.{length}
 use Rattle.wire.specs.Slices.{differ}
 use Rattle.wire.proofs.Differences.{differ_same, differ_other, same_of_differ}
-use Rattle.shape.specs.Difference.{decided, Diff, difference}
+use Rattle.shape.specs.Difference.{decided, difference}
 use Rattle.shape.proofs.Difference.{difference_same, difference_other}
 use Rattle.shape.proofs.Bind.{fronts, backs}
 use Rattle.inputs.specs.Inputs.{above}
