@@ -1,9 +1,7 @@
 -- `passage::request::request_refusal` meets its contract: the number is that of the indexes which are left, each to stand above the last.
-use mathlib.Core.Path.{sym, ap, ◌∙◌}
+use mathlib.Core.Path.{sym, ◌∙◌}
 use native.Mathlib.Omega.{arith}
 use native.Mathlib.Numerals.{add-one}
-use Rattle.order.specs.Order.{first_number}
-use Rattle.passage.specs.Request.{request_order}
 use Rattle.passage.proofs.Rising.{request_first, request_none, request_many, rising_next, rising_stop, rising_end}
 use Rattle.passage.proofs.request.request_refusal.Goals as goal
 
