@@ -1,5 +1,5 @@
 -- A block that is not long is padded with zeros: its words are those of the bytes, a byte past the end being 0.
-use Rattle.std.proofs.Common.{◌≡◌, ◌++◌, drop, get_or, replicate, ℕ, ap, List, length, ◌∙◌}
+use Rattle.std.proofs.Common.{◌++◌, drop, get_or, replicate, ℕ, ap, List, length, ◌∙◌}
 use Rattle.words.proofs.Blocks.{words_same}
 use Rattle.words.proofs.Fill.{padded_at}
 use Rattle.words.proofs.load.Goals as goal
