@@ -66,6 +66,7 @@ fn permute(m: [u32; 16]) -> [u32; 16]
 }
 
 // Seven rounds, the message permuted between them.
+#[inline(always)]
 fn seven(s: [u32; 16], m: [u32; 16]) -> [u32; 16]
     ensures { result ≡ rounds 7 s m }
 {
@@ -107,35 +108,17 @@ fn halve(s: [u32; 16]) -> [u32; 8]
     out
 }
 
-// One compression.
-pub fn compress(cv: [u32; 8], m: [u32; 16], n: u64, len: u32, flags: u32) -> [u32; 8]
+// One compression, opened at each call: only so does the loop over the lanes become vector code (bench/lanes.sh).
+#[inline(always)]
+pub fn compress_lane(cv: [u32; 8], m: [u32; 16], n: u64, len: u32, flags: u32) -> [u32; 8]
     ensures { result ≡ compressed cv m n len flags }
 {
     halve(seven(begin(cv, n, len, flags), m))
 }
 
-// `seven` and `compress` once more, for the lanes alone. A function with one call is opened at that call, and only then does the
-// loop over the lanes become vector code: do not merge them (bench/lanes.sh fails if the vector code is lost).
-fn seven_lane(s: [u32; 16], m: [u32; 16]) -> [u32; 16]
-    ensures { result ≡ rounds 7 s m }
-{
-    let t1 = diagonals(columns(s, m), m);
-    let m1 = permute(m);
-    let t2 = diagonals(columns(t1, m1), m1);
-    let m2 = permute(m1);
-    let t3 = diagonals(columns(t2, m2), m2);
-    let m3 = permute(m2);
-    let t4 = diagonals(columns(t3, m3), m3);
-    let m4 = permute(m3);
-    let t5 = diagonals(columns(t4, m4), m4);
-    let m5 = permute(m4);
-    let t6 = diagonals(columns(t5, m5), m5);
-    let m6 = permute(m5);
-    diagonals(columns(t6, m6), m6)
-}
-
-pub fn compress_lane(cv: [u32; 8], m: [u32; 16], n: u64, len: u32, flags: u32) -> [u32; 8]
+// One compression.
+pub fn compress(cv: [u32; 8], m: [u32; 16], n: u64, len: u32, flags: u32) -> [u32; 8]
     ensures { result ≡ compressed cv m n len flags }
 {
-    halve(seven_lane(begin(cv, n, len, flags), m))
+    compress_lane(cv, m, n, len, flags)
 }

@@ -1,7 +1,0 @@
--- One compression: begin, seven rounds, halve.
-use Rattle.compression.specs.Compression.{compressed}
-use Rattle.compression.proofs.compress.compress.Goals as goal
-
-pub returns : goal.returns
-unfolding compressed
-returns c = cc
