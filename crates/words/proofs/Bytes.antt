@@ -1,9 +1,8 @@
 -- The four bytes of word i, the low one first, are bytes 4 * i to 4 * i + 3 of the words.
-use Rattle.std.proofs.Common.{◌≡◌, ℕ, zero, suc, ◌+◌, ◌-◌, ◌*◌, ◌/◌, ◌%◌, ◌^◌, ◌<◌, List, [], ◌∷◌, length, get_or, ap, ap₂, ◌∙◌, subst, sym, arith}
-use Rattle.std.proofs.lemmas.Slice.{put_mid-paste}
+use Rattle.std.proofs.Common.{◌≡◌, ℕ, zero, suc, ◌+◌, ◌-◌, ◌*◌, ◌/◌, ◌%◌, ◌^◌, ◌<◌, List, [], ◌∷◌, length, get_or, ap, ap₂, ◌∙◌, arith}
 use borrow.Rule.Slice.PartMut.{put_mid}
 use Rattle.words.specs.Words.{byte_of}
-use Rattle.words.proofs.Fill.{Fills, fills_part}
+use Rattle.words.proofs.Fill.{Fills, fills_less, fills_put}
 
 module _ (w bs : List ℕ) (i : ℕ) (e : bs ≡ get_or w i 0 % 256 ∷ get_or w i 0 / 256 % 256 ∷ get_or w i 0 / 65536 % 256 ∷ get_or w i 0 / 16777216 % 256 ∷ [])
   where
@@ -23,10 +22,6 @@ module _ (w bs : List ℕ) (i : ℕ) (e : bs ≡ get_or w i 0 % 256 ∷ get_or w
 
     pub fills_word : {out new : List ℕ} → i < 8 → new ≡ bs → Fills (byte_of w) 32 out (4 * i)
         → Fills (byte_of w) 32 (put_mid (4 * i) (4 * i + 4 - 4 * i) out new) (4 * (i + 1))
-    fills_word {out} {new} h n g =
-        let k : 4 * i + 4 ≡ 4 * (i + 1) = omega arith in
+    fills_word h n g =
         let four : length bs ≡ 4 = ap length e in
-        subst (Fills (byte_of w) 32 (put_mid (4 * i) (4 * i + 4 - 4 * i) out new)) k
-        (subst (λ (l : List ℕ). Fills (byte_of w) 32 l (4 * i + 4))
-        (sym (put_mid-paste (4 * i) (4 * i + 4 - 4 * i) out new bs 4 n (omega arith) (sym four)))
-        (fills_part bs 4 (omega arith) (omega arith) each g))
+        fills_less (omega arith) (fills_put bs n (omega arith) (omega arith) (λ j l. each j (omega arith)) g)

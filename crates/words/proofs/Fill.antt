@@ -2,13 +2,15 @@
 use mathlib.Core.Path.{◌≡◌, refl, sym, ◌∙◌, subst}
 use borrow.Author.Count.{below_more}
 use mathlib.Core.List.{List, [], ◌∷◌, ◌++◌}
-use Prim.Native.Nat.{ℕ, zero, suc, ◌+◌, ◌≤◌, ◌<◌, zero-le}
+use Prim.Native.Nat.{ℕ, zero, suc, ◌+◌, ◌-◌, ◌≤◌, ◌<◌, zero-le}
 use native.Mathlib.Nat.{not-suc-le-zero}
 use native.Mathlib.Omega.{arith}
 use lib.ListN.{length, get_or, set, replicate, drop, length-set}
 use Rattle.std.proofs.Common.{get_or-drop}
 use lib.Seq.{ext_get_or, get_or-set_same, get_or-set_other, paste, paste-suc}
 use Rattle.std.proofs.lemmas.List.Edits.{paste_none}
+use Rattle.std.proofs.lemmas.Slice.{put_mid-paste}
+use borrow.Rule.Slice.PartMut.{put_mid}
 use Rattle.words.specs.Build.{build}
 use Rattle.words.proofs.Builds.{build_length, build_at}
 
@@ -38,7 +40,7 @@ fills_less {f} {n} {out} {i} {j} h g =
     record { size = g.size; within = omega (arith, g.within); done = λ k l. g.done k (omega arith) }
 
 -- a part that is stored at once
-pub fills_part : {f : ℕ → ℕ} {n i : ℕ} {out : List ℕ} (bs : List ℕ) (k : ℕ) → i + k ≤ n → k ≤ length bs
+fills_part : {f : ℕ → ℕ} {n i : ℕ} {out : List ℕ} (bs : List ℕ) (k : ℕ) → i + k ≤ n → k ≤ length bs
     → ((j : ℕ) → j < k → get_or bs j 0 ≡ f (i + j)) → Fills f n out i → Fills f n (paste out i bs k) (i + k)
 fills_part {f} {n} {i} {out} bs zero h l e g =
     subst (λ (x : List ℕ). Fills f n x (i + 0)) (paste_none out i bs) (fills_less (omega arith) g)
@@ -46,6 +48,14 @@ fills_part {f} {n} {i} {out} bs (suc k) h l e g =
     let before = fills_part bs k (omega arith) (omega arith) (λ j b. e j (omega arith)) g in
     let next = fills_more (omega arith) (e k (omega arith)) before in
     fills_less (omega arith) (subst (λ (x : List ℕ). Fills f n x (i + k + 1)) (paste-suc out i bs k 0 (omega (arith, g.size)) (omega arith)) next)
+
+-- a part that is stored by one copy, up to place j
+pub fills_put : {f : ℕ → ℕ} {n i j : ℕ} {out new : List ℕ} (bs : List ℕ) → new ≡ bs → i + length bs ≡ j → j ≤ n
+    → ((q : ℕ) → q < length bs → get_or bs q 0 ≡ f (i + q)) → Fills f n out i → Fills f n (put_mid i (j - i) out new) j
+fills_put {f} {n} {i} {j} {out} {new} bs e s h each g =
+    fills_less (omega arith)
+    (subst (λ (l : List ℕ). Fills f n l (i + length bs)) (sym (put_mid-paste i (j - i) out new bs (length bs) e (omega arith) refl))
+    (fills_part bs (length bs) (omega arith) (omega arith) each g))
 
 pub fills_all : {f : ℕ → ℕ} {n : ℕ} {out : List ℕ} {i : ℕ} → n ≤ i → Fills f n out i → out ≡ build n f
 fills_all {f} {n} {out} {i} h g =
