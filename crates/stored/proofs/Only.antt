@@ -27,7 +27,8 @@ unfolding answer case_of
 answer_case Inner digest = refl
 answer_case (Leaf n) digest = refl
 
-done_number : (node : Node) (digest : List ℕ) → (values_of node digest).number ≡ 0
+-- what was read is done
+pub done_number : (node : Node) (digest : List ℕ) → (values_of node digest).number ≡ 0
 done_number Inner digest = refl
 done_number (Leaf n) digest = refl
 
