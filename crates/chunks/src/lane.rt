@@ -15,9 +15,10 @@ pub const MOST_FIRST: u64 = 18014398509481980;
 pub fn lane(v: &[u32; 32], k: usize) -> [u32; 8]
     ensures { result ≡ lane_of v.now (k % 4) }
 {
-    let at = 8 * (k % 4);
     let mut out = [0u32; 8];
-    out.copy_from_slice(&v[at..at + 8]);
+    for i in 0..8 {
+        out[i] = v[8 * (k % 4) + i];
+    }
     out
 }
 
@@ -31,7 +32,10 @@ fn compress4(cv: [u32; 32], bytes: &[u8], at: usize, n: u64, flags: u32) -> [u32
         let p = 1024 * k + at;
         let block = load(&bytes[p..p + 64]);
         let v = compress_lane(lane(&cv, k), block, n + (k as u64), 64, flags);
-        out[8 * k..8 * k + 8].copy_from_slice(&v);
+        // word by word: with one copy of the eight the vector code is lost (bench/lanes.sh)
+        for i in 0..8 {
+            out[8 * k + i] = v[i];
+        }
     }
     out
 }

@@ -5,28 +5,34 @@ use Rattle.compression.specs.Compression.{compressed}
 use Rattle.words.specs.Words.{words_of}
 use Rattle.chunks.specs.Lanes.{lane_of, laned}
 use Rattle.chunks.specs.Steps.{compressed4}
-use Rattle.words.proofs.Fill.{fills_none, fills_all}
-use Rattle.compression.proofs.Lengths.{compressed_length}
-use Rattle.chunks.proofs.Laned.{fills_lane}
+use Rattle.words.proofs.Fill.{fills_none, fills_more, fills_less, fills_all}
+use Rattle.chunks.proofs.Laned.{rule_at}
 use Rattle.chunks.proofs.lane.compress4.Invariants.{lane_of_lem}
 use Rattle.chunks.proofs.lane.compress4.Goals as goal
 
 pub loop-k-init : goal.loop-k-init
 loop-k-init c = fills_none refl
 
-pub loop-k-preserved : goal.loop-k-preserved
-loop-k-preserved c =
+pub loop-i-init : goal.loop-i-init
+loop-i-init c = fills_less (omega arith) c.loop-k.invariant
+
+pub loop-i-preserved : goal.loop-i-preserved
+loop-i-preserved c =
     let a = c.args in
     let k = c.loop-k.k in
     let p = 1024 * k + a.at in
     let r : k % 4 ≡ k = omega arith in
-    fills_lane (lane_of_lem a.cv a.bytes.now a.at a.n a.flags)
+    fills_less (omega arith)
+    (fills_more (omega arith)
+    (rule_at (lane_of_lem a.cv a.bytes.now a.at a.n a.flags) k c.loop-i.i c.loop-i-test.true
     (c.compress_lane-v.ensures
     ∙ ap₂ (λ (x y : List ℕ). compressed x y (a.n + k) 64 a.flags)
     (c.lane.ensures ∙ ap (lane_of a.cv) r)
-    (c.load-block.ensures ∙ ap (λ (j : ℕ). words_of 16 (take j (drop p a.bytes.now))) (add-sub_cancel_left p 64)))
-    (compressed_length _ _ _ _ _)
-    c.loop-k-test.true c.copy_from_slice.ensures.after c.loop-k.invariant
+    (c.load-block.ensures ∙ ap (λ (j : ℕ). words_of 16 (take j (drop p a.bytes.now))) (add-sub_cancel_left p 64))))
+    c.loop-i.invariant)
+
+pub loop-k-preserved : goal.loop-k-preserved
+loop-k-preserved c = fills_less (omega arith) c.loop-i.invariant
 
 pub returns : goal.returns
 unfolding compressed4 laned

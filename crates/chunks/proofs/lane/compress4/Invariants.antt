@@ -1,4 +1,4 @@
--- What each turn of the loop of `compress4` keeps.
+-- What each turn of the loops of `compress4` keeps.
 use mathlib.Core.List.{List}
 use Prim.Native.Nat.{ℕ, ◌+◌, ◌*◌}
 use lib.ListN.{take, drop}
@@ -15,3 +15,6 @@ lane_of_lem cv bytes at n flags j = compressed (lane_of cv j) (words_of 16 (take
 
 abbrev pub invariant-loop-k : goal.invariant-loop-k
 invariant-loop-k l = Fills (rule (lane_of_lem l.cv l.bytes l.at l.n l.flags)) 32 l.out (8 * l.k)
+
+abbrev pub invariant-loop-i : goal.invariant-loop-i
+invariant-loop-i l = Fills (rule (lane_of_lem l.cv l.bytes l.at l.n l.flags)) 32 l.out (8 * l.k + l.i)
