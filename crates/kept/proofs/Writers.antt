@@ -8,7 +8,7 @@ use Rattle.std.specs.Prelude.{Result, Ok, Err}
 use Rattle.refusals.specs.declared.Refused.{Refused}
 use Rattle.refusals.specs.Numbers.{number_of, number_in}
 use Rattle.refusals.proofs.Laws.{number_above}
-use Rattle.wire.specs.Writers.{WriteOutcome, wrote, write_refused}
+use Rattle.wire.specs.Writers.{WriteOutcome, write_refused, wrote}
 use Rattle.kept.specs.Kept.{value_or, write_left, write_call}
 use Rattle.kept.proofs.Kept.{kept_done, kept_left}
 
@@ -26,11 +26,11 @@ module _ (outcome : WriteOutcome) (old : ℕ) (x : List ℕ) where
   unfolding write_call
   write_done_lem n e = e ∙ sym (kept_done _ _ _ (sym (ap write_number e)))
 
--- what a writer's answer leaves, its length put behind the pointer
-pub write_put : (outcome : WriteOutcome) (old : ℕ) (x : List ℕ) (r : Result ℕ Refused) → wrote r x ≡ outcome
+-- what `put` leaves of a writer's answer
+pub write_put : (outcome : WriteOutcome) (old : ℕ) (r : Result ℕ Refused) (x : List ℕ) → wrote r x ≡ outcome
     → write_left (number_in r) (value_or old r) x ≡ write_call outcome old
-write_put outcome old x (Ok n) e = write_done_lem outcome old x n e
-write_put outcome old x (Err why) e = write_refused_lem outcome old x (number_of why) e (λ z. omega (arith, number_above why))
+write_put outcome old (Ok n) x e = write_done_lem outcome old x n e
+write_put outcome old (Err why) x e = write_refused_lem outcome old x (number_of why) e (λ z. omega (arith, number_above why, z))
 
 -- the number, the length variable, and the output buffer
 pub write_left_only : (x : WriteOutcome) (m n l k : ℕ) (bs cs : List ℕ) → write_left m l bs ≡ x → write_left n k cs ≡ x

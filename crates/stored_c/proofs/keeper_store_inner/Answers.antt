@@ -17,4 +17,4 @@ returns c =
     let a = c.args in
     let e = read_whole a.digest.now a.out.now c.read_digest.result (omega arith) c.read_digest.ensures c.write_inner.ensures in
     rw (c.put.ensures.number, c.put.ensures.value)
-    (behind a.digest.now a.out.now a.length.now (omega arith) (write_put _ a.length.now _ c.write_inner.result e))
+    (behind a.digest.now a.out.now a.length.now (omega arith) (write_put _ a.length.now c.write_inner.result _ e))

@@ -5,4 +5,4 @@ use Rattle.stored_c.proofs.keeper_store_leaf.Goals as goal
 
 pub returns : goal.returns
 unfolding store_leaf_call
-returns c = rw (c.put.ensures.number, c.put.ensures.value) (write_put _ c.args.length.now _ c.write_leaf.result c.write_leaf.ensures)
+returns c = rw (c.put.ensures.number, c.put.ensures.value) (write_put _ c.args.length.now c.write_leaf.result _ c.write_leaf.ensures)
