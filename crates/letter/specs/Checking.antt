@@ -1,5 +1,7 @@
 -- The order that checks a letter, from 7 on: the checker and the finder share it.
-use Rattle.std.specs.Prelude.{List, [], ◌∷◌, ◌++◌, ℕ, ◌+◌, ◌*◌, length}
+use Rattle.std.specs.Prelude.{List, [], ◌∷◌, ◌++◌, ℕ, ◌+◌, ◌*◌, Result, length}
+use Rattle.refusals.specs.declared.Refused.{Refused}
+use Rattle.refusals.specs.Numbers.{outcome_by}
 use Rattle.wire.specs.Limits.{longest_record}
 use Rattle.order.specs.Order.{Refusal, ◌if◌, ◌under◌, ◌above◌, ◌not_below◌, ◌is_not◌, verdict}
 use Rattle.wire.specs.Slices.{differ}
@@ -38,10 +40,6 @@ pub record FieldsOutcome : Type 0 where
   pub start : ℕ
   pub length : ℕ
 
--- the outcome by the answer
-abbrev pub taken_apart : Fields → FieldsOutcome
-taken_apart r = record { number = r.number; index = r.index; start = r.start; length = r.length }
-
 -- a refusal has its number alone
 abbrev pub fields_refused : ℕ → FieldsOutcome
 fields_refused number = record { number = number; index = 0; start = 0; length = 0 }
@@ -49,6 +47,13 @@ fields_refused number = record { number = number; index = 0; start = 0; length =
 -- done: the fields that stand in it
 abbrev pub fields_done : List ℕ → FieldsOutcome
 fields_done letter = record { number = 0; index = index_in letter; start = head; length = stated_in letter }
+
+-- the outcome by the answer, the fields or why there are none
+abbrev pub fields_told : Fields → FieldsOutcome
+fields_told f = record { number = 0; index = f.index; start = f.start; length = f.length }
+
+abbrev pub taken_apart : Result Fields Refused → FieldsOutcome
+taken_apart r = outcome_by fields_refused fields_told r
 
 -- behind the size alone, and all
 unfoldable pub behind_outcome : ℕ → List ℕ → FieldsOutcome

@@ -7,14 +7,13 @@ use native.Mathlib.Omega.{arith}
 use lib.ListN.{length, take, drop}
 use Rattle.digest.specs.Digest.{digest_in, digest_length}
 use Rattle.wire.specs.Slices.{splice, written, joined}
-use Rattle.wire.proofs.Splices.{splice_length, splice_lent, written_fits}
-use Rattle.wire.proofs.Joined.{joined_length, joined_one}
+use Rattle.wire.proofs.Splices.{splice_lent, written_fits}
+use Rattle.wire.proofs.Joined.{joined_one}
 use Rattle.shape.specs.Nodes.{climb}
-use Rattle.shape.proofs.Appends.{climb_length}
 use Rattle.nodes.specs.Nodes.{node_in}
 use Rattle.new_nodes.specs.Outcome.{put_bytes}
 use Rattle.new_nodes.specs.Steps.{Lefts, left_in, ups}
-use Rattle.new_nodes.proofs.Climbs.{ups_climb, climb_sized}
+use Rattle.new_nodes.proofs.Climbs.{ups_climb}
 use Rattle.new_nodes.proofs.Writing.{ups_bytes}
 
 module _ (mode : List ℕ) (s m : ℕ) (rec bs : List ℕ) (room : 32 * (s + (1 + m)) ≤ length bs) where
@@ -44,12 +43,3 @@ module _ (mode : List ℕ) (s m : ℕ) (rec bs : List ℕ) (room : 32 * (s + (1 
       ∙ splice_lent (32 * s) (length bs - 32 * s) 0 xs bs (omega arith) (omega arith)
       ∙ ap₂ (λ (at : ℕ) (x : List ℕ). splice at x bs) (add-zero (32 * s))
       (ap joined (ups_climb mode (node_in bs) (left_in saved) s (digest_in mode rec) m (λ i h. l.each i h)))
-
-  -- as long as it was
-  pub put_fits : length (put_bytes (digest_in mode) s m rec bs) ≡ length bs
-  unfolding put_bytes
-  put_fits =
-      let xs = climb (digest_in mode) (node_in bs) m 0 s (digest_in mode rec) in
-      let l : length (joined xs) ≡ 32 * length xs =
-      joined_length xs (climb_sized (digest_in mode) (digest_length mode) (node_in bs) m 0 s (digest_in mode rec) (digest_length mode rec)) in
-      splice_length (32 * s) (joined xs) bs (omega (arith, climb_length (digest_in mode) (node_in bs) m 0 s (digest_in mode rec)))

@@ -1,8 +1,8 @@
 -- The left children, saved one behind the other: what holds after j of them.
-use mathlib.Core.Path.{◌≡◌, refl, sym, ap, ◌∙◌}
+use mathlib.Core.Path.{◌≡◌, sym, ap, ◌∙◌}
 use mathlib.Core.List.{List}
-use Prim.Native.Nat.{ℕ, suc, ◌+◌, ◌-◌, ◌*◌, ◌^◌, ◌≤◌, ◌<◌, zero-le}
-use native.Mathlib.Nat.{pow-suc, not-suc-le-zero}
+use Prim.Native.Nat.{ℕ, suc, ◌+◌, ◌-◌, ◌*◌, ◌^◌, ◌≤◌, ◌<◌}
+use native.Mathlib.Nat.{pow-suc}
 use native.Mathlib.Numerals.{add-one}
 use native.Mathlib.Omega.{arith}
 use borrow.Author.Count.{below_more}
@@ -21,9 +21,6 @@ pub record Saves (bs : List ℕ) (s m : ℕ) (saved : List ℕ) (span j : ℕ) :
   pub each : (i : ℕ) → i < j → left_in saved i ≡ node_in bs (s + i - (2 ^ suc i - 1))
 
 module _ {bs : List ℕ} {s m : ℕ} {saved : List ℕ} where
-  pub saves_none : length saved ≡ 1024 → Saves bs s m saved 1 0
-  saves_none e = record { within = zero-le; power = refl; room = e; each = λ i h. absurd (not-suc-le-zero h) }
-
   module _ {span j : ℕ} (g : Saves bs s m saved span j) (h : j < m) where
     -- the left child stands at a position
     pub span_fits : 2 ^ m ≤ s + 1 → (0 < span) × (2 * span ≤ s + 1)

@@ -51,11 +51,6 @@ writes_none mode left x d m {first} e h w =
     }
 
 module _ {mode : List ℕ} {left : ℕ → List ℕ} {x first tail top : List ℕ} {m j : ℕ} (g : Writes mode left x first tail top m j) where
-  pub tail_length : length tail ≡ length first
-  tail_length =
-      ap length g.bytes
-      ∙ splice_length 0 (joined (ups mode left j x)) first (omega (arith, ups_bytes mode left j x g.size, g.within, g.room))
-
   pub writes_more : {next more : List ℕ} → j < m → next ≡ digest_in mode (left j ++ top) → more ≡ written (32 * (j + 1)) next tail
       → Writes mode left x first more next m (j + 1)
   unfolding up ups

@@ -1,7 +1,7 @@
 -- What a list is that is no request, read from the front, and what one is that is.
-use mathlib.Core.Path.{◌≡◌, ◌∙◌}
+use mathlib.Core.Path.{◌≡◌, ap, ◌∙◌}
 use mathlib.Core.List.{List, [], ◌∷◌}
-use Prim.Native.Nat.{ℕ, suc, ◌≤◌, ◌<◌}
+use Prim.Native.Nat.{ℕ, suc, ◌+◌, ◌≤◌, ◌<◌}
 use native.Mathlib.Omega.{arith}
 use lib.ListN.{length, get_or, drop, drop_of_length-le}
 use lib.Seq.{drop-cons}
@@ -21,12 +21,12 @@ unfolding request_order
 request_many is p q = first_is 19 _ (λ f g. absurd (omega arith))
 
 -- of 1 to 256 indexes the first is never refused
-pub request_first : (is : List ℕ) → 0 < length is → length is ≤ 256
-    → first_number (request_order is) ≡ first_number (rising_order (suc (get_or is 0 0)) (drop 1 is))
+pub request_first : (is : List ℕ) {i : ℕ} {rest : List ℕ} → is ≡ i ∷ rest → length is ≤ 256
+    → first_number (request_order is) ≡ first_number (rising_order (suc i) rest)
 unfolding request_order rising_order
-request_first [] p q = absurd (omega arith)
-request_first (i ∷ is) p q =
-    first_next 19 _ _ (omega arith) ∙ first_next 19 _ _ (omega arith) ∙ first_next 19 _ _ (omega arith)
+request_first is {i} {rest} e q =
+    let n : length is ≡ length rest + 1 = ap length e ∙ omega arith in
+    first_next 19 _ _ (omega arith) ∙ first_next 19 _ _ (omega arith) ∙ rw e (first_next 19 _ _ (omega arith))
 
 module _ (is : List ℕ) (last k : ℕ) where
   -- an index above the last

@@ -9,14 +9,12 @@ ghost use Rattle.passage.specs.Steps.{Countable};
 pub fn below(is: &[u64], m: u64) -> usize
     ensures { (result ≡ under m is.now) × (result ≤ length is.now) }
 {
-    let mut k: usize = 0;
-    while k < is.len() {
-        if m <= is[k] {
+    for (k, &i) in is.iter().enumerate() {
+        if m <= i {
             return k;
         }
-        k += 1;
     }
-    k
+    is.len()
 }
 
 // How many digests are given for n leaves, n at most 2^h, the first of them leaf p, and the indexes among them.

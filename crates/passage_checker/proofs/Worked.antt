@@ -9,10 +9,10 @@ use Rattle.wire.proofs.Lists.{rest_all}
 use Rattle.passage.specs.Bytes.{indexes_in, end_in}
 use Rattle.passage.specs.Digests.{worked_root}
 use Rattle.passage_fields.specs.declared.Fields.{Fields}
-use Rattle.passage_fields.specs.Fields.{taken_apart, fields_outcome}
+use Rattle.passage_fields.specs.Fields.{fields_taken, fields_outcome}
 use Rattle.passage_fields.proofs.Places.{places_count}
 use Rattle.passage_fields.proofs.Fits.{fits_request}
-use Rattle.passage_fields.proofs.Apart.{Apart}
+use Rattle.passage_fields.proofs.Apart.{Apart, apart}
 use Rattle.passage_root.specs.Root.{root_from}
 use Rattle.passage_root.proofs.Letter.{root_worked}
 
@@ -21,9 +21,12 @@ not_empty : (n : ℕ) (is : List ℕ) → 1 ≤ length is → Rising 0 n is → 
 not_empty n [] p q = absurd (omega arith)
 not_empty n (i ∷ is) p q = omega arith
 
-module _ (size n : ℕ) (letter : List ℕ) {r : Fields} (e : taken_apart r ≡ fields_outcome size n letter) (a : Apart size n letter e) where
+module _ (size n : ℕ) (letter : List ℕ) {f : Fields} (e : fields_taken f ≡ fields_outcome size n letter) where
+  abbrev a : Apart size n letter e
+  a = apart size n letter e
+
   -- no more records than the arrays have places
-  pub counted_few : r.count ≤ 256
+  pub counted_few : f.count ≤ 256
   counted_few = omega (arith, a.count, a.fits.few)
 
   some : 0 < n
@@ -31,11 +34,11 @@ module _ (size n : ℕ) (letter : List ℕ) {r : Fields} (e : taken_apart r ≡ 
 
   pub worked_slices : (digest : List ℕ → List ℕ) → ((x : List ℕ) → length (digest x) ≡ 32) → n ≤ 2 ^ 32 → {made : List ℕ}
       → made
-      ≡ root_from digest n (take r.count r.indexes) letter (take r.count r.places) (take (length letter - r.end) (drop r.end letter))
+      ≡ root_from digest n (take f.count f.indexes) letter (take f.count f.places) (take (length letter - f.end) (drop f.end letter))
       → made ≡ worked_root digest n letter
   worked_slices digest digest_32 most g =
-      let items : take (length letter - r.end) (drop r.end letter) ≡ drop (end_in letter) letter =
-      rest_all r.end letter ∙ ap (λ (k : ℕ). drop k letter) a.end in
+      let items : take (length letter - f.end) (drop f.end letter) ≡ drop (end_in letter) letter =
+      rest_all f.end letter ∙ ap (λ (k : ℕ). drop k letter) a.end in
       g
       ∙ rw (a.places_are, a.indexes_are, items)
       (root_worked digest digest_32 n letter some most (omega (arith, places_count letter, a.fits.few)))

@@ -1,5 +1,7 @@
 -- What checking a passage letter returns, for every input and any digest function, and what the panel's programs print.
-use Rattle.std.specs.Prelude.{true, false, List, ◌∷◌, ℕ, ltb, length, drop}
+use Rattle.std.specs.Prelude.{true, false, List, ◌∷◌, ℕ, Result, ltb, length, drop}
+use Rattle.refusals.specs.declared.Refused.{Refused}
+use Rattle.refusals.specs.Numbers.{outcome_by}
 use Rattle.order.specs.Order.{Refusal, ◌if◌, ◌is◌, ◌is_not◌, verdict}
 use Rattle.wire.specs.Numbers.{number}
 use Rattle.wire.specs.Slices.{part}
@@ -8,7 +10,6 @@ use Rattle.shape.specs.Sizes.{count_answer, leaves}
 use Rattle.passage.specs.Bytes.{count_in}
 use Rattle.passage.specs.Checking.{from7}
 use Rattle.passage_fields.specs.Fields.{FieldsOutcome, fields_refused, fields_done}
-use Rattle.passage_checker.specs.declared.Checked.{Checked}
 
 -- ---- the check
 
@@ -17,13 +18,17 @@ pub record CheckOutcome : Type 0 where
   pub number : ℕ
   pub count : ℕ
 
--- the outcome by the answer
-abbrev pub checked : Checked → CheckOutcome
-checked r = record { number = r.number; count = r.count }
-
 -- a refusal has its number alone
 abbrev pub check_refused : ℕ → CheckOutcome
 check_refused number = record { number = number; count = 0 }
+
+-- a letter that is accepted
+abbrev pub check_counted : ℕ → CheckOutcome
+check_counted count = record { number = 0; count = count }
+
+-- the outcome by the answer, how many records there are or why it is refused
+abbrev pub checked : Result ℕ Refused → CheckOutcome
+checked r = outcome_by check_refused check_counted r
 
 -- done: the number of records
 abbrev pub check_done : List ℕ → CheckOutcome

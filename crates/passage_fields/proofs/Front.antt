@@ -2,17 +2,17 @@
 use mathlib.Core.Logic.{◌≢◌}
 use mathlib.Core.Path.{◌≡◌, refl, ap, ◌∙◌}
 use mathlib.Core.List.{List, [], ◌∷◌, ◌++◌}
-use Prim.Native.Nat.{ℕ, ◌+◌, ◌*◌, ◌≤◌}
+use Prim.Native.Nat.{ℕ, ◌+◌, ◌*◌, ◌≤◌, ◌<◌}
 use native.Mathlib.Omega.{arith}
 use lib.ListN.{length, take}
-use Rattle.order.specs.Order.{Refusal, ◌if◌, ◌under◌, ◌above◌, ◌is_not◌}
-use Rattle.order.proofs.Laws.{Passes, accepted, refusal, number_is, early, late, passes, refuses}
+use Rattle.order.specs.Order.{Refusal, ◌if◌, ◌under◌, ◌above◌, ◌is_not◌, first_number}
+use Rattle.order.proofs.Laws.{Passes, accepted, number_is, early, late, passes, refuses}
 use Rattle.letter.specs.Bytes.{size_in}
 use Rattle.passage.specs.Bytes.{count_in, places, indexes_in, end_in}
 use Rattle.passage.specs.Digests.{digest_count}
 use Rattle.passage.specs.Checking.{entries_order, exact_for, fields_order}
 use Rattle.passage_fields.specs.declared.Fields.{Fields}
-use Rattle.passage_fields.specs.Fields.{FieldsOutcome, taken_apart, fields_refused, fields_done, front_order, front_outcome, fields_outcome}
+use Rattle.passage_fields.specs.Fields.{FieldsOutcome, fields_refused, fields_taken, fields_done, front_order, front_outcome, fields_outcome}
 use Rattle.passage_fields.specs.Steps.{records_outcome}
 use Rattle.passage_fields.proofs.Filled.{filled_length, filled_front}
 use Rattle.passage_fields.proofs.Places.{places_count, indexes_count, exact_end}
@@ -42,32 +42,31 @@ module _ (size n : ℕ) (letter : List ℕ) where
 
   -- ---- what comes before the exact length
 
-  module _ {r : Fields} (e : taken_apart r ≡ front_outcome size n letter) where
-    -- a refusal is that of all fields
-    pub front_refuses : r.number ≢ 0 → taken_apart r ≡ fields_outcome size n letter
-    unfolding front_outcome fields_outcome
-    front_refuses z =
-        let k = number_is (λ (o : FieldsOutcome). o.number) fields_refused (front_order size n letter) (fields_done letter) (λ m. refl) refl e in
-        let f = refusal (λ (o : FieldsOutcome). o.number) fields_refused (front_order size n letter) (fields_done letter) (λ m. refl) refl e z in
-        rw fields_parts
-        (early fields_refused (front_order size n letter) exact (fields_done letter) (f ∙ ap fields_refused k) (λ y. z (k ∙ y)))
+  -- a refusal is that of all fields
+  pub front_refuses : {k : ℕ} → 0 < k → fields_refused k ≡ front_outcome size n letter → fields_refused k ≡ fields_outcome size n letter
+  unfolding front_outcome fields_outcome
+  front_refuses {k} z e =
+      let m : k ≡ first_number (front_order size n letter) =
+      number_is (λ (o : FieldsOutcome). o.number) fields_refused (front_order size n letter) (fields_done letter) (λ j. refl) refl e in
+      rw fields_parts (early fields_refused (front_order size n letter) exact (fields_done letter) (ap fields_refused m) (λ y. omega arith))
 
+  module _ {f : Fields} (e : fields_taken f ≡ front_outcome size n letter) where
     -- where there is none: the lists stand in the first places of the two arrays, and the records within the letter
     pub record Fronted : Type 0 where
       pub passes : Passes (front_order size n letter)
-      pub done : taken_apart r ≡ fields_done letter
-      pub few : r.count ≤ 256
-      pub indexes_long : length r.indexes ≡ 256
-      pub indexes_are : take r.count r.indexes ≡ indexes_in letter
-      pub places_long : length r.places ≡ 256
-      pub within : r.end ≤ length letter
-      pub near : r.end ≤ 4197386
+      pub done : fields_taken f ≡ fields_done letter
+      pub few : f.count ≤ 256
+      pub indexes_long : length f.indexes ≡ 256
+      pub indexes_are : take f.count f.indexes ≡ indexes_in letter
+      pub places_long : length f.places ≡ 256
+      pub within : f.end ≤ length letter
+      pub near : f.end ≤ 4197386
 
-    pub fronted : r.number ≡ 0 → Fronted
+    pub fronted : Fronted
     unfolding front_outcome front_order end_in
-    fronted z =
+    fronted =
         let a = accepted (λ (o : FieldsOutcome). o.number) fields_refused (front_order size n letter) (fields_done letter) (λ k. refl) refl e
-        (front_numbered size n letter) z in
+        (front_numbered size n letter) refl in
         let p = a.0 in
         let m : count_in letter ≤ 256 = p.1.1.1.0 in
         let i = indexes_count letter in
@@ -86,22 +85,21 @@ module _ (size n : ℕ) (letter : List ℕ) where
 
     -- ---- the exact length
 
-    module _ (f : Fronted) where
-      pub exact_is : {k : ℕ} → k ≡ digest_count n (take r.count r.indexes) → r.end + 32 * k ≡ exact_for n letter
-      exact_is {k} d =
-          let c : k ≡ digest_count n (indexes_in letter) = d ∙ ap (digest_count n) f.indexes_are in
-          omega (arith, exact_end letter n, ap (λ (o : FieldsOutcome). o.end) f.done)
+    pub exact_is : {k : ℕ} → k ≡ digest_count n (take f.count f.indexes) → f.end + 32 * k ≡ exact_for n letter
+    exact_is {k} d =
+        let c : k ≡ digest_count n (indexes_in letter) = d ∙ ap (digest_count n) fronted.indexes_are in
+        omega (arith, exact_end letter n, ap (λ (o : FieldsOutcome). o.end) fronted.done)
 
-      pub exact_refuses : {o : FieldsOutcome} → length letter ≢ exact_for n letter → o ≡ fields_refused 7 → o ≡ fields_outcome size n letter
-      unfolding fields_outcome
-      exact_refuses h g =
-          rw fields_parts
-          (late fields_refused (front_order size n letter) exact (fields_done letter) f.passes
-          (refuses 7 fields_refused exact (fields_done letter) g (λ y. absurd (h y))))
+    pub exact_refuses : length letter ≢ exact_for n letter → fields_refused 7 ≡ fields_outcome size n letter
+    unfolding fields_outcome
+    exact_refuses h =
+        rw fields_parts
+        (late fields_refused (front_order size n letter) exact (fields_done letter) fronted.passes
+        (refuses 7 fields_refused exact (fields_done letter) refl (λ y. absurd (h y))))
 
-      pub exact_passes : length letter ≡ exact_for n letter → taken_apart r ≡ fields_outcome size n letter
-      unfolding fields_outcome
-      exact_passes h =
-          rw fields_parts
-          (late fields_refused (front_order size n letter) exact (fields_done letter) f.passes
-          (passes fields_refused exact (fields_done letter) f.done (h, tt)))
+    pub exact_passes : length letter ≡ exact_for n letter → fields_taken f ≡ fields_outcome size n letter
+    unfolding fields_outcome
+    exact_passes h =
+        rw fields_parts
+        (late fields_refused (front_order size n letter) exact (fields_done letter) fronted.passes
+        (passes fields_refused exact (fields_done letter) fronted.done (h, tt)))

@@ -1,6 +1,8 @@
 -- What taking a passage letter apart returns, for every input; a record as a part of the letter.
-use Rattle.std.specs.Prelude.{List, ◌∷◌, ◌++◌, ℕ, ◌+◌, ◌-◌, min, length}
+use Rattle.std.specs.Prelude.{List, ◌∷◌, ◌++◌, ℕ, ◌+◌, ◌-◌, min, Result, length}
 use Rattle.std.specs.Borrow.{Bor}
+use Rattle.refusals.specs.declared.Refused.{Refused}
+use Rattle.refusals.specs.Numbers.{outcome_by}
 use Rattle.order.specs.Order.{Refusal, ◌if◌, ◌under◌, ◌above◌, ◌is_not◌, verdict}
 use Rattle.wire.specs.Slices.{zeros}
 use Rattle.wire.specs.Lent.{Part}
@@ -22,10 +24,6 @@ pub record FieldsOutcome : Type 0 where
   pub indexes : List ℕ
   pub places : List ℕ
 
--- the outcome by the answer
-abbrev pub taken_apart : Fields → FieldsOutcome
-taken_apart r = record { number = r.number; count = r.count; end = r.end; indexes = r.indexes; places = r.places }
-
 -- numbers, with zeros behind them up to 256
 abbrev pub filled : List ℕ → List ℕ
 filled xs = xs ++ zeros (most_records - length xs)
@@ -33,6 +31,14 @@ filled xs = xs ++ zeros (most_records - length xs)
 -- a refusal has its number alone
 abbrev pub fields_refused : ℕ → FieldsOutcome
 fields_refused number = record { number = number; count = 0; end = 0; indexes = zeros most_records; places = zeros most_records }
+
+-- a letter that is taken apart
+abbrev pub fields_taken : Fields → FieldsOutcome
+fields_taken f = record { number = 0; count = f.count; end = f.end; indexes = f.indexes; places = f.places }
+
+-- the outcome by the answer, the fields or why there are none
+abbrev pub taken_apart : Result Fields Refused → FieldsOutcome
+taken_apart r = outcome_by fields_refused fields_taken r
 
 -- done: the records that stand in it
 abbrev pub fields_done : List ℕ → FieldsOutcome

@@ -12,13 +12,13 @@ use Rattle.shape.specs.Sizes.{leaves}
 use Rattle.passage.specs.Bytes.{count_in, stated_at, places, indexes_in, starts_in, lengths_in}
 use Rattle.passage.specs.Checking.{fields_order, from7}
 use Rattle.passage_fields.specs.declared.Fields.{Fields}
-use Rattle.passage_fields.specs.Fields.{taken_apart}
+use Rattle.passage_fields.specs.Fields.{fields_taken}
 use Rattle.passage_fields.proofs.Places.{places_count, indexes_count, lengths_count}
 use Rattle.passage_fields.proofs.Fits.{pass_fits, fits_inside}
 use Rattle.passage_fields.proofs.Apart.{Apart, apart}
 use Rattle.passage_checker.specs.Outcome.{check_order, pass_outcome}
 use Rattle.passage_records.specs.Outcome.{EntryOutcome, entry_refused, entry_done, entry_outcome}
-use Rattle.passage_checker.proofs.Passing.{check_numbered, pass_none, pass_refused, pass_taken}
+use Rattle.passage_checker.proofs.Passing.{check_numbered, pass_taken}
 use Rattle.passage_checker.proofs.Worked.{counted_few}
 
 -- one of a list's images
@@ -40,55 +40,48 @@ unfolding lengths_in
 length_at letter k p = number_at (stated_at letter) (places letter) k (omega (arith, places_count letter))
 
 module _ (digest : List ℕ → List ℕ) (size : ℕ) (root letter : List ℕ) where
-  module _ {r : Fields} (e : taken_apart r ≡ pass_outcome digest size root letter) where
-    -- past the last: a refusal has none
-    pub entry_none : (k : ℕ) → r.count ≤ k
-        → record { number = r.number; index = 0; start = 0; length = 0 } ≡ entry_outcome digest size root letter k
+  module _ {f : Fields} (e : fields_taken f ≡ pass_outcome digest size root letter) where
+    taken_apart_lem : Apart size (leaves size) letter (pass_taken digest size root letter e).1
+    taken_apart_lem = apart size (leaves size) letter (pass_taken digest size root letter e).1
+
+    pub entry_count : f.count ≡ count_in letter
+    entry_count = taken_apart_lem.count
+
+    -- past the last
+    pub entry_none : (k : ℕ) → f.count ≤ k → record { number = 0; index = 0; start = 0; length = 0 } ≡ entry_outcome digest size root letter k
     unfolding entry_outcome
     entry_none k h =
-        by_cases (ℕ_discrete r.number 0)
-        (λ z.
-        let t = pass_taken digest size root letter e z in
-        let a = apart size (leaves size) letter t.1 z in
-        let i : get_or (indexes_in letter) k 0 ≡ 0 = get_or-eq_default (indexes_in letter) 0 {n = k} (omega (arith, indexes_count letter, a.count)) in
-        let s : get_or (starts_in letter) k 0 ≡ 0 = get_or-eq_default (starts_in letter) 0 {n = k} (omega (arith, starts_count letter, a.count)) in
-        let l : get_or (lengths_in letter) k 0 ≡ 0 = get_or-eq_default (lengths_in letter) 0 {n = k} (omega (arith, lengths_count letter, a.count)) in
-        passes entry_refused (check_order digest size root letter) (entry_done letter k) (rw (z, i, s, l)) t.0)
-        (λ z. pass_refused digest size root letter e entry_refused (entry_done letter k) z)
+        let c = entry_count in
+        let i : get_or (indexes_in letter) k 0 ≡ 0 = get_or-eq_default (indexes_in letter) 0 {n = k} (omega (arith, indexes_count letter)) in
+        let s : get_or (starts_in letter) k 0 ≡ 0 = get_or-eq_default (starts_in letter) 0 {n = k} (omega (arith, starts_count letter)) in
+        let l : get_or (lengths_in letter) k 0 ≡ 0 = get_or-eq_default (lengths_in letter) 0 {n = k} (omega (arith, lengths_count letter)) in
+        passes entry_refused (check_order digest size root letter) (entry_done letter k) (rw (i, s, l)) (pass_taken digest size root letter e).0
 
-    module _ (k : ℕ) (h : k < r.count) where
-      -- one that is there is of a letter that was taken apart
-      no_refusal : r.number ≡ 0
-      no_refusal = by_cases (ℕ_discrete r.number 0) (λ z. z) (λ z. absurd (omega (arith, pass_none digest size root letter e z)))
-
-      taken_apart_lem : Apart size (leaves size) letter (pass_taken digest size root letter e no_refusal).1
-      taken_apart_lem = apart size (leaves size) letter (pass_taken digest size root letter e no_refusal).1 no_refusal
-
-      place_is : get_or r.places k 0 ≡ get_or (places letter) k 0
-      place_is = sym (get_or-take r.count r.places k 0 h) ∙ ap (λ (xs : List ℕ). get_or xs k 0) taken_apart_lem.places_are
+    module _ (k : ℕ) (h : k < f.count) where
+      place_is : get_or f.places k 0 ≡ get_or (places letter) k 0
+      place_is = sym (get_or-take f.count f.places k 0 h) ∙ ap (λ (xs : List ℕ). get_or xs k 0) taken_apart_lem.places_are
 
       -- it stands in the arrays, and within the letter
-      pub entry_inside : (k < 256) × (get_or r.places k 0 + 12 ≤ length letter)
+      pub entry_inside : (k < 256) × (get_or f.places k 0 + 12 ≤ length letter)
       entry_inside =
-          let t = taken_apart_lem in
-          let n = counted_few size (leaves size) letter _ t in (
-            omega arith,
+          let t = taken_apart_lem in (
+            omega (arith, counted_few size (leaves size) letter (pass_taken digest size root letter e).1),
             omega (arith, place_is, start_at letter k (omega (arith, t.count)), fits_inside size (leaves size) letter t.fits k),
           )
 
-      pub entry_some : {index start length : ℕ} → index ≡ get_or r.indexes k 0 → start ≡ get_or r.places k 0 + 12
-          → length ≡ stated_at letter (get_or r.places k 0)
-          → record { number = r.number; index = index; start = start; length = length } ≡ entry_outcome digest size root letter k
+      pub entry_some : {index start length : ℕ} → index ≡ get_or f.indexes k 0 → start ≡ get_or f.places k 0 + 12
+          → length ≡ stated_at letter (get_or f.places k 0)
+          → record { number = 0; index = index; start = start; length = length } ≡ entry_outcome digest size root letter k
       unfolding entry_outcome
       entry_some {index} {start} {length} i s l =
           let t = taken_apart_lem in
           let m : k < count_in letter = omega (arith, t.count) in
           let a : index ≡ get_or (indexes_in letter) k 0 =
-          i ∙ sym (get_or-take r.count r.indexes k 0 h) ∙ ap (λ (xs : List ℕ). get_or xs k 0) t.indexes_are in
+          i ∙ sym (get_or-take f.count f.indexes k 0 h) ∙ ap (λ (xs : List ℕ). get_or xs k 0) t.indexes_are in
           let b : start ≡ get_or (starts_in letter) k 0 = s ∙ ap (λ (at : ℕ). at + 12) place_is ∙ sym (start_at letter k m) in
           let d : length ≡ get_or (lengths_in letter) k 0 = l ∙ ap (stated_at letter) place_is ∙ sym (length_at letter k m) in
-          passes entry_refused (check_order digest size root letter) (entry_done letter k) (rw (no_refusal, a, b, d))
-          (pass_taken digest size root letter e no_refusal).0
+          passes entry_refused (check_order digest size root letter) (entry_done letter k) (rw (a, b, d))
+          (pass_taken digest size root letter e).0
 
   -- it lies within the letter, also the empty one of a refusal
   pub entry_within : (k : ℕ) → (entry_outcome digest size root letter k).start + (entry_outcome digest size root letter k).length ≤ length letter

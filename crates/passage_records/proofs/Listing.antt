@@ -1,5 +1,5 @@
 -- Three lists filled from the front, one record after the other.
-use mathlib.Core.Path.{◌≡◌, refl, sym, ap, ap₂, ◌∙◌}
+use mathlib.Core.Path.{◌≡◌, sym, ap, ap₂, ◌∙◌}
 use mathlib.Core.List.{List, [], ◌∷◌, ◌++◌, map}
 use Prim.Native.Nat.{ℕ, ◌+◌, ◌≤◌, ◌<◌}
 use native.Mathlib.Numerals.{add-one}
@@ -30,8 +30,8 @@ module _ (xs before : List ℕ) (room : length xs ≤ length before) where
       ∙ ap (λ (ys : List ℕ). splice 0 ys before)
       (ap (λ (w : ℕ). take k xs ++ (w ∷ [])) f ∙ sym (take-suc xs k 0 h) ∙ ap (λ (j : ℕ). take j xs) (sym (add-one k)))
 
-  front_all : (k : ℕ) {d : List ℕ} → Front xs before k d → length xs ≤ k → d ≡ splice 0 xs before
-  front_all k e h = e ∙ ap (λ (ys : List ℕ). splice 0 ys before) (take_all k xs h)
+front_all : (xs before : List ℕ) (k : ℕ) {d : List ℕ} → Front xs before k d → length xs ≤ k → d ≡ splice 0 xs before
+front_all xs before k e h = e ∙ ap (λ (ys : List ℕ). splice 0 ys before) (take_all k xs h)
 
 -- ---- the three
 
@@ -42,58 +42,37 @@ starts_of places = map (λ (at : ℕ). at + 12) places
 abbrev lengths_of : List ℕ → List ℕ → List ℕ
 lengths_of letter places = map (stated_at letter) places
 
-pub record Listing (letter given places indexes₀ starts₀ lengths₀ indexes starts lengths : List ℕ) (k : ℕ) : Type 0 where
-  pub some : k ≤ length places
-  pub indexed : Front given indexes₀ k indexes
+pub record Listing (letter places starts₀ lengths₀ starts lengths : List ℕ) (k : ℕ) : Type 0 where
   pub started : Front (starts_of places) starts₀ k starts
   pub measured : Front (lengths_of letter places) lengths₀ k lengths
 
 module _ (letter given places indexes₀ starts₀ lengths₀ : List ℕ)
     (room : Listable letter given places (length indexes₀) (length starts₀) (length lengths₀)) where
-  given_room : length given ≤ length indexes₀
-  given_room = omega (arith, room.one_each, room.room)
-
   starts_room : length (starts_of places) ≤ length starts₀
   starts_room = rw length-map room.room.1
 
   lengths_room : length (lengths_of letter places) ≤ length lengths₀
   lengths_room = rw length-map room.room.2
 
-  pub listing_none : Listing letter given places indexes₀ starts₀ lengths₀ indexes₀ starts₀ lengths₀ 0
-  listing_none =
-      record {
-        some = omega arith;
-        indexed = sym (splice_none 0 indexes₀);
-        started = sym (splice_none 0 starts₀);
-        measured = sym (splice_none 0 lengths₀);
-      }
+  pub listing_none : Listing letter places starts₀ lengths₀ starts₀ lengths₀ 0
+  listing_none = record { started = sym (splice_none 0 starts₀); measured = sym (splice_none 0 lengths₀) }
 
-  module _ {indexes starts lengths : List ℕ} {k : ℕ} (l : Listing letter given places indexes₀ starts₀ lengths₀ indexes starts lengths k) where
-    -- no list changes its length
-    pub listing_lengths : (length indexes ≡ length indexes₀) × (length starts ≡ length starts₀) × (length lengths ≡ length lengths₀)
-    listing_lengths = (
-      front_length given indexes₀ given_room k l.indexed,
-      front_length (starts_of places) starts₀ starts_room k l.started,
-      front_length (lengths_of letter places) lengths₀ lengths_room k l.measured,
-    )
-
+  module _ {starts lengths : List ℕ} {k : ℕ} (l : Listing letter places starts₀ lengths₀ starts lengths k) where
     pub listing_more : {stated : ℕ} → k < length places → stated ≡ stated_at letter (get_or places k 0)
-        → Listing letter given places indexes₀ starts₀ lengths₀
-        (set indexes k (get_or given k 0)) (set starts k (get_or places k 0 + 12)) (set lengths k stated) (k + 1)
+        → Listing letter places starts₀ lengths₀ (set starts k (get_or places k 0 + 12)) (set lengths k stated) (k + 1)
     listing_more h e =
         let a = number_at (λ (at : ℕ). at + 12) places k h in
         let b = number_at (stated_at letter) places k h in
         record {
-          some = omega arith;
-          indexed = front_more given indexes₀ given_room k l.indexed (omega (arith, room.one_each)) refl;
           started = front_more (starts_of places) starts₀ starts_room k l.started (rw length-map h) (sym a);
           measured = front_more (lengths_of letter places) lengths₀ lengths_room k l.measured (rw length-map h) (e ∙ sym b);
         }
 
-    pub listing_all : length places ≤ k → Listed letter given places indexes₀ starts₀ lengths₀ indexes starts lengths
-    listing_all h =
+    pub listing_all : {indexes : List ℕ} → indexes ≡ splice 0 given indexes₀ → length places ≤ k
+        → Listed letter given places indexes₀ starts₀ lengths₀ indexes starts lengths
+    listing_all e h =
         record {
-          indexes_are = front_all given indexes₀ given_room k l.indexed (omega (arith, room.one_each));
-          starts_are = front_all (starts_of places) starts₀ starts_room k l.started (rw length-map h);
-          lengths_are = front_all (lengths_of letter places) lengths₀ lengths_room k l.measured (rw length-map h);
+          indexes_are = e;
+          starts_are = front_all (starts_of places) starts₀ k l.started (rw length-map h);
+          lengths_are = front_all (lengths_of letter places) lengths₀ k l.measured (rw length-map h);
         }

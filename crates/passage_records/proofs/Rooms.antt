@@ -1,6 +1,5 @@
 -- All records of a pass: a refusal, a list with too few places, or each list filled.
-use mathlib.Core.Logic.{◌≢◌}
-use mathlib.Core.Path.{◌≡◌, ap, ◌∙◌}
+use mathlib.Core.Path.{◌≡◌, refl, ap, ◌∙◌}
 use mathlib.Core.List.{List}
 use Prim.Native.Nat.{ℕ, ◌+◌, ◌≤◌, ◌<◌}
 use native.Mathlib.Omega.{arith}
@@ -10,62 +9,54 @@ use Rattle.wire.specs.Slices.{splice}
 use Rattle.shape.specs.Sizes.{leaves}
 use Rattle.passage.specs.Bytes.{count_in, places, indexes_in, starts_in, lengths_in}
 use Rattle.passage_fields.specs.declared.Fields.{Fields}
-use Rattle.passage_fields.specs.Fields.{taken_apart}
+use Rattle.passage_fields.specs.Fields.{fields_refused, fields_taken}
 use Rattle.passage_fields.proofs.Places.{places_count, indexes_count}
 use Rattle.passage_fields.proofs.Fits.{fits_inside}
 use Rattle.passage_fields.proofs.Apart.{Apart, apart}
-use Rattle.passage_checker.specs.declared.Checked.{Checked}
-use Rattle.passage_checker.specs.Outcome.{checked, check_refused, check_order, pass_outcome}
-use Rattle.passage_records.specs.Outcome.{listed, list_refused, list_done, room_order, entries_outcome}
+use Rattle.passage_checker.specs.Outcome.{check_order, pass_outcome}
+use Rattle.passage_records.specs.Outcome.{list_refused, list_done, room_order, entries_outcome}
 use Rattle.passage_records.specs.Steps.{Listable, Listed}
 use Rattle.passage_checker.proofs.Passing.{pass_number, pass_taken}
 use Rattle.passage_checker.proofs.Worked.{counted_few}
 use Rattle.passage_records.proofs.Handing.{start_at}
 
-module _ (digest : List ℕ → List ℕ) (size : ℕ) (root letter indexes starts lengths : List ℕ)
-    {r : Fields} (e : taken_apart r ≡ pass_outcome digest size root letter) where
+module _ (digest : List ℕ → List ℕ) (size : ℕ) (root letter indexes starts lengths : List ℕ) where
   -- a refusal changes no list
-  unchanged : {o : Checked} (n : ℕ) → checked o ≡ check_refused n → listed o indexes starts lengths ≡ list_refused indexes starts lengths n
-  unchanged n f i = record { number = (f i).number; count = (f i).count; indexes = indexes; starts = starts; lengths = lengths }
-
-  pub pass_refuses : {o : Checked} → r.number ≢ 0 → checked o ≡ check_refused r.number
-      → listed o indexes starts lengths ≡ entries_outcome digest size root letter indexes starts lengths
+  pub pass_refuses : {k : ℕ} → 0 < k → fields_refused k ≡ pass_outcome digest size root letter
+      → list_refused indexes starts lengths k ≡ entries_outcome digest size root letter indexes starts lengths
   unfolding entries_outcome
-  pass_refuses z f =
+  pass_refuses z e =
       let n = pass_number digest size root letter e in
       early (list_refused indexes starts lengths) (check_order digest size root letter) (room_order letter indexes starts lengths)
-      (list_done letter indexes starts lengths) (unchanged r.number f ∙ ap (list_refused indexes starts lengths) n) (λ y. z (n ∙ y))
+      (list_done letter indexes starts lengths) (ap (list_refused indexes starts lengths) n) (λ y. omega (arith, n))
 
-  module _ (z : r.number ≡ 0) where
-    taken_apart_lem : Apart size (leaves size) letter (pass_taken digest size root letter e z).1
-    taken_apart_lem = apart size (leaves size) letter (pass_taken digest size root letter e z).1 z
+  module _ {f : Fields} (e : fields_taken f ≡ pass_outcome digest size root letter) where
+    taken_apart_lem : Apart size (leaves size) letter (pass_taken digest size root letter e).1
+    taken_apart_lem = apart size (leaves size) letter (pass_taken digest size root letter e).1
 
     -- the arrays have room for the records
-    pub counted : (r.count ≤ length r.indexes) × (r.count ≤ length r.places)
-    counted =
-        let a = taken_apart_lem in
-        let n = counted_few size (leaves size) letter _ a in
-        (omega (arith, a.indexes_long), omega (arith, a.places_long))
+    pub counted : f.count ≤ 256
+    counted = counted_few size (leaves size) letter (pass_taken digest size root letter e).1
 
-    pub room_refuses : {o : Checked} → (r.count ≤ length indexes → r.count ≤ length starts → r.count ≤ length lengths → ⊥)
-        → checked o ≡ check_refused 6 → listed o indexes starts lengths ≡ entries_outcome digest size root letter indexes starts lengths
+    pub room_refuses : (f.count ≤ length indexes → f.count ≤ length starts → f.count ≤ length lengths → ⊥)
+        → list_refused indexes starts lengths 6 ≡ entries_outcome digest size root letter indexes starts lengths
     unfolding entries_outcome room_order
-    room_refuses h f =
+    room_refuses h =
         let n = taken_apart_lem.count in
         late (list_refused indexes starts lengths) (check_order digest size root letter) (room_order letter indexes starts lengths)
-        (list_done letter indexes starts lengths) (pass_taken digest size root letter e z).0
+        (list_done letter indexes starts lengths) (pass_taken digest size root letter e).0
         (refuses 6 (list_refused indexes starts lengths) (room_order letter indexes starts lengths) (list_done letter indexes starts lengths)
-        (unchanged 6 f) (λ a b c. h (omega arith) (omega arith) (omega arith)))
+        refl (λ a b c. h (omega arith) (omega arith) (omega arith)))
 
     -- all three have room
-    module _ (a : r.count ≤ length indexes) (b : r.count ≤ length starts) (c : r.count ≤ length lengths) where
-      as_many : length (take r.count r.places) ≡ r.count
+    module _ (a : f.count ≤ length indexes) (b : f.count ≤ length starts) (c : f.count ≤ length lengths) where
+      as_many : length (take f.count f.places) ≡ f.count
       as_many = omega (arith, ap length taken_apart_lem.places_are, places_count letter, taken_apart_lem.count)
 
       place_inside : (k : ℕ) → k < count_in letter → get_or (places letter) k 0 + 12 ≤ length letter
       place_inside k h = omega (arith, start_at letter k h, fits_inside size (leaves size) letter taken_apart_lem.fits k)
 
-      pub listable : Listable letter (take r.count r.indexes) (take r.count r.places) (length indexes) (length starts) (length lengths)
+      pub listable : Listable letter (take f.count f.indexes) (take f.count f.places) (length indexes) (length starts) (length lengths)
       listable =
           let t = taken_apart_lem in
           record {
@@ -74,8 +65,8 @@ module _ (digest : List ℕ → List ℕ) (size : ℕ) (root letter indexes star
             room = (omega (arith, as_many), omega (arith, as_many), omega (arith, as_many));
           }
 
-      pub all_listed : {i s l : List ℕ} → Listed letter (take r.count r.indexes) (take r.count r.places) indexes starts lengths i s l
-          → record { number = 0; count = r.count; indexes = i; starts = s; lengths = l }
+      pub all_listed : {i s l : List ℕ} → Listed letter (take f.count f.indexes) (take f.count f.places) indexes starts lengths i s l
+          → record { number = 0; count = f.count; indexes = i; starts = s; lengths = l }
           ≡ entries_outcome digest size root letter indexes starts lengths
       unfolding entries_outcome room_order starts_in lengths_in
       all_listed {i} {s} {l} d =
@@ -84,7 +75,7 @@ module _ (digest : List ℕ → List ℕ) (size : ℕ) (root letter indexes star
           let y : s ≡ splice 0 (starts_in letter) starts = d.starts_are ∙ rw t.places_are in
           let w : l ≡ splice 0 (lengths_in letter) lengths = d.lengths_are ∙ rw t.places_are in
           late (list_refused indexes starts lengths) (check_order digest size root letter) (room_order letter indexes starts lengths)
-          (list_done letter indexes starts lengths) (pass_taken digest size root letter e z).0
+          (list_done letter indexes starts lengths) (pass_taken digest size root letter e).0
           (passes (list_refused indexes starts lengths) (room_order letter indexes starts lengths) (list_done letter indexes starts lengths)
           (λ j. record { number = 0; count = t.count j; indexes = x j; starts = y j; lengths = w j })
           (omega (arith, t.count), (omega (arith, t.count), (omega (arith, t.count), tt))))

@@ -1,11 +1,12 @@
 -- What the calls that hand back the records of a passage letter return, for every input and any digest function.
-use Rattle.std.specs.Prelude.{List, [], ◌∷◌, ◌++◌, ℕ, length, get_or}
+use Rattle.std.specs.Prelude.{List, [], ◌∷◌, ◌++◌, ℕ, ◌≤◌, ◌<◌, Option, Some, None, Result, Ok, Err, length, get_or}
 use Rattle.std.specs.Borrow.{Bor}
+use Rattle.refusals.specs.declared.Refused.{Refused}
+use Rattle.refusals.specs.Numbers.{outcome_by}
 use Rattle.order.specs.Order.{Refusal, ◌if◌, ◌under◌, verdict}
 use Rattle.wire.specs.Slices.{splice}
 use Rattle.wire.specs.Lent.{Part, part_of}
 use Rattle.passage.specs.Bytes.{count_in, indexes_in, starts_in, lengths_in}
-use Rattle.passage_checker.specs.declared.Checked.{Checked}
 use Rattle.passage_checker.specs.Outcome.{check_order}
 use Rattle.passage_records.specs.declared.Handed.{Handed}
 
@@ -18,13 +19,24 @@ pub record EntryOutcome : Type 0 where
   pub start : ℕ
   pub length : ℕ
 
--- the outcome by the answer
-abbrev pub handed : Handed → EntryOutcome
-handed r = record { number = r.number; index = r.index; start = r.start; length = r.length }
-
 -- a refusal: its number, index 0, and the empty part at the start
 abbrev pub entry_refused : ℕ → EntryOutcome
 entry_refused number = record { number = number; index = 0; start = 0; length = 0 }
+
+-- a record, or none
+abbrev pub handed_back : Option Handed → EntryOutcome
+handed_back (Some h) = record { number = 0; index = h.index; start = h.start; length = h.length }
+handed_back None = record { number = 0; index = 0; start = 0; length = 0 }
+
+-- the outcome by the answer, the record or why there is none
+abbrev pub handed : Result (Option Handed) Refused → EntryOutcome
+handed r = outcome_by entry_refused handed_back r
+
+-- where it is done, there is a record k just where there are more than k
+abbrev pub There : ℕ → ℕ → Result (Option Handed) Refused → Type 0
+There count k (Ok (Some h)) = k < count
+There count k (Ok None) = count ≤ k
+There count k (Err why) = Unit
 
 -- done: index and part of record k, counted from 0; index 0 and the empty part at the start past the last
 abbrev pub entry_done : List ℕ → ℕ → EntryOutcome
@@ -41,15 +53,16 @@ pub record EntriesOutcome : Type 0 where
   pub starts : List ℕ
   pub lengths : List ℕ
 
--- the outcome by the answer and the three lists
-abbrev pub listed : Checked → List ℕ → List ℕ → List ℕ → EntriesOutcome
-listed r indexes starts lengths =
-    record { number = r.number; count = r.count; indexes = indexes; starts = starts; lengths = lengths }
-
 -- a refusal: its number alone, and no lent place changes
 abbrev pub list_refused : List ℕ → List ℕ → List ℕ → ℕ → EntriesOutcome
 list_refused indexes starts lengths number =
     record { number = number; count = 0; indexes = indexes; starts = starts; lengths = lengths }
+
+-- the outcome by the answer, how many records there are or why it is refused, and the three lists
+abbrev pub listed : Result ℕ Refused → List ℕ → List ℕ → List ℕ → EntriesOutcome
+listed r indexes starts lengths =
+    outcome_by (list_refused indexes starts lengths)
+    (λ (count : ℕ). record { number = 0; count = count; indexes = indexes; starts = starts; lengths = lengths }) r
 
 -- done: those of the records fill the first places, and no other place changes
 abbrev pub list_done : List ℕ → List ℕ → List ℕ → List ℕ → EntriesOutcome

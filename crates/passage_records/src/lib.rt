@@ -4,55 +4,54 @@
 ghost use Rattle.std.specs.Prelude.{◌≡◌, length};
 ghost use Rattle.digest.specs.Digest.{digest_in};
 ghost use Rattle.wire.specs.Lent.{lent};
-ghost use Rattle.passage_checker.specs.Outcome.{checked, check_refused};
-ghost use Rattle.passage_records.specs.Outcome.{handed, entry_outcome, record_part, listed, entries_outcome};
+ghost use Rattle.passage.specs.Bytes.{count_in};
+ghost use Rattle.passage_records.specs.Outcome.{handed, There, entry_outcome, record_part, listed, entries_outcome};
 ghost use Rattle.passage_records.specs.Steps.{Listable, Listed};
 
-use passage_checker::{Checked, pass};
+use passage_checker::pass;
 use passage_fields::stated_at;
+use refusals::Refused;
 
-// Record k of a letter: the number, the index, and where the record lies in the letter. A refusal has 0 for these.
-#[derive(Drop)]
+// A record of a letter: its index, and where the record lies in the letter.
+#[derive(Clone, Copy, PartialEq, Eq)]
 pub struct Handed {
-    pub number: u32,
     pub index: u64,
     pub start: usize,
     pub length: usize,
 }
 
-// Record k of an accepted letter, counted from 0. Refuses as `check` does; past the last, and for a refusal, 0 and the empty part at the start.
-pub fn entry(mode: &[u8; 36], size: u64, root: &[u8], letter: &[u8], k: u64) -> Handed
-    ensures { handed result ≡ entry_outcome (digest_in mode.now) size root.now letter.now k }
+// Record k of an accepted letter, counted from 0; none past the last. Refuses as `check` does.
+pub fn entry(
+    mode: &[u8; 36],
+    size: u64,
+    root: &[u8],
+    letter: &[u8],
+    k: u64,
+) -> Result<Option<Handed>, Refused>
+    ensures part { handed result ≡ entry_outcome (digest_in mode.now) size root.now letter.now k }
+    ensures there { There (count_in letter.now) k result }
 {
-    let f = pass(mode, size, root, letter);
+    let f = pass(mode, size, root, letter)?;
     if f.count as u64 <= k {
-        return Handed {
-            number: f.number,
-            index: 0,
-            start: 0,
-            length: 0,
-        };
+        return Ok(None);
     }
     let j = k as usize;
     let at = f.places[j];
-    let index = f.indexes[j];
-    let start = at + passage::FRAME;
-    let length = stated_at(letter, at);
-    Handed {
-        number: f.number,
-        index,
-        start,
-        length,
-    }
+    Ok(Some(Handed {
+        index: f.indexes[j],
+        start: at + passage::FRAME,
+        length: stated_at(letter, at),
+    }))
 }
 
 // Record k of an accepted letter, as a part of it; past the last, and for a refusal, the empty part at the start.
 pub fn record_in<'a>(mode: &[u8; 36], size: u64, root: &[u8], letter: &'a [u8], k: u64) -> &'a [u8]
     ensures { lent result ≡ record_part (digest_in mode.now) size root.now letter.entry k }
 {
-    let e = entry(mode, size, root, letter, k);
-    let start = e.start;
-    &letter[start..start + e.length]
+    let Some(e) = entry(mode, size, root, letter, k).unwrap_or(None) else {
+        return &letter[..0];
+    };
+    &letter[e.start..e.start + e.length]
 }
 
 // The index, start and length of each record at these places, into the first places of three slices.
@@ -68,25 +67,15 @@ fn list(
     ensures { Listed letter.now given.now places.now
         indexes.old starts.old lengths.old indexes.new starts.new lengths.new }
 {
-    let mut k = 0;
-    while k < places.len() {
-        let at = places[k];
-        indexes[k] = given[k];
+    indexes[..given.len()].copy_from_slice(given);
+    for (k, &at) in places.iter().enumerate() {
         starts[k] = (at + passage::FRAME) as u64;
         lengths[k] = stated_at(letter, at) as u64;
-        k += 1;
     }
 }
 
-// A refusal of a check.
-fn check_refused(number: u32) -> Checked
-    ensures { checked result ≡ check_refused number }
-{
-    Checked { number, count: 0 }
-}
-
-// The index, start and length of every record of an accepted letter, into three slices. Refuses as `check` does, then by 6 for a slice with fewer
-// places than there are records.
+// The index, start and length of every record of an accepted letter, into three slices, and how many records there are. Refuses as `check` does, then
+// by 6 for a slice with fewer places than there are records.
 pub fn entries(
     mode: &[u8; 36],
     size: u64,
@@ -95,31 +84,23 @@ pub fn entries(
     indexes: &mut [u64],
     starts: &mut [u64],
     lengths: &mut [u64],
-) -> Checked
+) -> Result<u64, Refused>
     ensures { listed result indexes.new starts.new lengths.new
         ≡ entries_outcome (digest_in mode.now) size root.now letter.now
         indexes.old starts.old lengths.old }
 {
-    let f = pass(mode, size, root, letter);
+    let f = pass(mode, size, root, letter)?;
     let count = f.count;
-    if f.number != 0 {
-        return check_refused(f.number);
-    }
     if indexes.len() < count || starts.len() < count || lengths.len() < count {
-        return check_refused(6);
+        return Err(Refused::OutputTooShort);
     }
-    let given = f.indexes;
-    let places = f.places;
     list(
         letter,
-        &given[..count],
-        &places[..count],
+        &f.indexes[..count],
+        &f.places[..count],
         indexes,
         starts,
         lengths,
     );
-    Checked {
-        number: 0,
-        count: count as u64,
-    }
+    Ok(count as u64)
 }

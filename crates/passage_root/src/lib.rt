@@ -9,12 +9,6 @@ ghost use Rattle.passage_root.specs.Steps.{AsItStands, Parent, Workable, WorkedO
 
 use digest::Digest;
 
-// The digests of up to 256 records in a row, zeros behind them.
-#[derive(Drop)]
-pub struct Leaves {
-    pub bytes: [u8; 8192],
-}
-
 // A digest worked out, and how many leaf digests and given digests it took.
 #[derive(Drop)]
 struct Worked {
@@ -38,21 +32,17 @@ fn leaf_at(mode: &[u8; 36], letter: &[u8], at: usize) -> Digest
     digest::digest_of(mode, rec)
 }
 
-// The digest of the record at each of the first 256 places.
-pub fn leaf_digests(mode: &[u8; 36], letter: &[u8], places: &[usize]) -> Leaves
-    ensures { result.bytes ≡ leaf_digests (digest_in mode.now) letter.now places.now }
+// The digest of the record at each of the first 256 places, zeros behind them.
+pub fn leaf_digests(mode: &[u8; 36], letter: &[u8], places: &[usize]) -> [u8; 8192]
+    ensures { result ≡ leaf_digests (digest_in mode.now) letter.now places.now }
 {
+    let first = &places[..places.len().min(passage::MOST_RECORDS)];
     let mut bytes = [0u8; 8192];
-    let mut k: usize = 0;
-    while k < places.len() {
-        if passage::MOST_RECORDS <= k {
-            return Leaves { bytes };
-        }
-        let leaf = leaf_at(mode, letter, places[k]).bytes;
+    for (k, &at) in first.iter().enumerate() {
+        let leaf = leaf_at(mode, letter, at).bytes;
         wire::write_digest(&mut bytes, 32 * k, leaf);
-        k += 1;
     }
-    Leaves { bytes }
+    bytes
 }
 
 // Digest number k of a row, and what it counts for.
@@ -71,10 +61,11 @@ fn as_it_stands(row: &[u8], k: u64, asked: u64, used: u64) -> Worked
 fn record_digest(mode: &[u8; 36], letter: &[u8], places: &[usize], k: u64) -> Worked
     ensures { AsItStands (leaf_digests (digest_in mode.now) letter.now places.now) k 1 0 result }
 {
-    let mut digest = Digest { bytes: [0u8; 32] };
-    if k < places.len() as u64 && k < passage::MOST_RECORDS as u64 {
-        digest = leaf_at(mode, letter, places[k as usize]);
-    }
+    let digest = if k < places.len() as u64 && k < passage::MOST_RECORDS as u64 {
+        leaf_at(mode, letter, places[k as usize])
+    } else {
+        Digest { bytes: [0u8; 32] }
+    };
     Worked {
         digest,
         asked: 1,
@@ -166,9 +157,8 @@ pub fn root_of(
         items,
         0,
     );
-    let digest = top.digest;
     Rooted {
-        digest,
+        digest: top.digest,
         used: top.used,
     }
 }

@@ -23,9 +23,6 @@ module _ (count bytes : ℕ) (ks : List ℕ) where
     pub within : i ≤ length ks
     pub sum : total ks + left ≡ bytes + total (drop i ks)
 
-  pub sums_begin : Sums bytes 0
-  sums_begin = record { within = omega arith; sum = omega arith }
-
   module _ {left i : ℕ} (s : Sums left i) where
     -- a length that is more than what is left
     pub sums_short : i < length ks → left < get_or ks i 0 → 16 ≡ first_number (sums_order count bytes ks)

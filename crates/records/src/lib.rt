@@ -3,25 +3,29 @@
 
 ghost use Rattle.std.specs.Prelude.{◌≡◌};
 ghost use Rattle.order.specs.Order.{first_number};
+ghost use Rattle.refusals.specs.Numbers.{number_in};
 ghost use Rattle.records.specs.Records.{sums_order};
 
-// 16 where there are not so many lengths, or where they do not add up to so many bytes, else 0. What is left of the bytes is counted down, so that no
-// sum wraps.
-pub fn sums_refusal(count: usize, bytes: usize, lengths: &[u32]) -> u32
-    ensures { result ≡ first_number (sums_order count bytes lengths.now) }
+use refusals::Refused;
+
+// 16 where there are not so many lengths, or where they do not add up to so many bytes. What is left of the bytes is counted down, so that no sum wraps.
+pub fn sums_refusal(count: usize, bytes: usize, lengths: &[u32]) -> Result<(), Refused>
+    ensures { number_in result ≡ first_number (sums_order count bytes lengths.now) }
 {
     if lengths.len() != count {
-        return 16;
+        return Err(Refused::WrongLengths);
     }
     let mut left = bytes;
-    let mut i = 0;
-    while i < lengths.len() {
-        let k = lengths[i] as usize;
+    for &k in lengths {
+        let k = k as usize;
         if left < k {
-            return 16;
+            return Err(Refused::WrongLengths);
         }
         left -= k;
-        i += 1;
     }
-    if left == 0 { 0 } else { 16 }
+    if left == 0 {
+        Ok(())
+    } else {
+        Err(Refused::WrongLengths)
+    }
 }

@@ -1,4 +1,5 @@
 -- `letter::take_apart` meets its contract: 7 and 8 come first, and then what is answered behind the size.
+use mathlib.Core.Path.{refl}
 use mathlib.Core.List.{[], ◌∷◌}
 use Rattle.order.specs.Order.{◌if◌, ◌under◌, ◌is_not◌}
 use Rattle.order.proofs.Laws.{refuses, late}
@@ -9,11 +10,11 @@ use Rattle.letter.proofs.take_apart.Goals as goal
 
 pub returns-then-letter-lt-HEAD : goal.returns-then-letter-lt-HEAD
 unfolding fields_outcome fields_order behind_order
-returns-then-letter-lt-HEAD c = refuses 7 _ _ _ c.fields_refused.ensures (search rules)
+returns-then-letter-lt-HEAD c = refuses 7 _ _ _ refl (search rules)
 
 pub returns-then-read8-size : goal.returns-then-read8-size
 unfolding fields_outcome fields_order behind_order size_in
-returns-then-read8-size c = refuses 8 _ _ _ c.fields_refused-then-read8-size.ensures (search rules)
+returns-then-read8-size c = refuses 8 _ _ _ refl (search rules)
 
 pub returns : goal.returns
 unfolding fields_outcome behind_outcome fields_order size_in

@@ -1,91 +1,69 @@
 -- `passage_checker::pass` meets its contract: each refusal is the first of the order that applies, and where none does the fields are the letter's.
-use mathlib.Core.Path.{◌≡◌, sym, ap, ◌∙◌}
+use mathlib.Core.Path.{◌≡◌, refl, sym, ap, ◌∙◌}
+use mathlib.Core.List.{List}
 use Prim.Native.Nat.{ℕ, ◌+◌, ◌*◌, ◌≤◌}
 use native.Mathlib.Omega.{arith}
-use lib.Seq.{length-take-le}
+use borrow.Author.Rules.{rules}
+use lib.ListN.{length, take}
+use Rattle.std.specs.Prelude.{Err}
+use Rattle.refusals.proofs.Laws.{number_above}
+use Rattle.wire.specs.Slices.{bit}
 use Rattle.digest.specs.Digest.{digest_in, digest_length}
 use Rattle.shape.specs.Sizes.{leaves}
-use Rattle.shape.proofs.Counting.{counts_leaves, counts_none}
-use Rattle.passage.specs.Digests.{worked_root}
+use Rattle.shape.proofs.Counting.{Counts, counts_leaves, counts_none}
+use Rattle.passage.specs.Digests.{digest_count, worked_root}
 use Rattle.passage.specs.Checking.{exact_for}
 use Rattle.passage.proofs.Digests.{count_few}
-use Rattle.passage_fields.specs.Fields.{FieldsOutcome, taken_apart, front_outcome, fields_outcome}
+use Rattle.passage_fields.specs.declared.Fields.{Fields}
+use Rattle.passage_fields.specs.Fields.{FieldsOutcome, fields_refused, fields_taken, taken_apart, front_outcome, fields_outcome}
 use Rattle.passage_fields.proofs.Front.{front_refuses, fronted, exact_is, exact_refuses, exact_passes}
-use Rattle.passage_fields.proofs.Apart.{apart}
 use Rattle.passage_checker.proofs.Passing.{size_refuses, width_refuses, fields_refuse, root_refuses, all_pass}
 use Rattle.passage_checker.proofs.Worked.{worked_slices}
 use Rattle.passage_checker.proofs.pass.Goals as goal
 
-pub returns-in_default : goal.returns-in_default
-returns-in_default c =
+pub returns-in_err-n : goal.returns-in_err-n
+returns-in_err-n c =
     let a = c.args in
-    size_refuses (digest_in a.mode.now) a.size a.root.now a.letter.now
-    (counts_none a.size c.leaf_count-c.ensures c.in_default.is) c.refused.ensures
+    let e : c.from_residual.result ≡ Err c.in_err-n.field-0.0 = search rules in
+    let n = counts_none a.size c.leaf_count.ensures c.in_err-n.was in
+    size_refuses (digest_in a.mode.now) a.size a.root.now a.letter.now n.0 (ap taken_apart e ∙ ap fields_refused n.1)
 
 pub returns-then-root-ne32 : goal.returns-then-root-ne32
 returns-then-root-ne32 c =
     let a = c.args in
-    let k = counts_leaves c.leaf_count-c.ensures c.in-Leaves.is in
-    width_refuses (digest_in a.mode.now) a.size a.root.now a.letter.now k.number c.if-root-ne32.true c.refused-then-root-ne32.ensures
+    let k = counts_leaves c.leaf_count.ensures c.in_ok-n.was in
+    width_refuses (digest_in a.mode.now) a.size a.root.now a.letter.now k.number c.if-root-ne32.true refl
 
 -- the letter is taken apart but for its exact length, for the leaf count of the size
-pub returns-then-f-ne0 : goal.returns-then-f-ne0
-returns-then-f-ne0 c =
+front : (size : ℕ) (letter : List ℕ) {n : ℕ} {o : FieldsOutcome} → Counts size n → o ≡ front_outcome size n letter → o ≡ front_outcome size (leaves size) letter
+front size letter k e = e ∙ ap (λ (n : ℕ). front_outcome size n letter) (sym k.value)
+
+pub returns-in_err-f : goal.returns-in_err-f
+returns-in_err-f c =
     let a = c.args in
-    let k = counts_leaves c.leaf_count-c.ensures c.in-Leaves.is in
-    let digest = digest_in a.mode.now in
-    let front = c.take_front-f.ensures ∙ ap (λ (n : ℕ). front_outcome a.size n a.letter.now) (sym k.value) in
-    fields_refuse digest a.size a.root.now a.letter.now k.number c.if-root-ne32.false
-    (front_refuses a.size (leaves a.size) a.letter.now front c.if-f-ne0.true) c.if-f-ne0.true
+    let k = counts_leaves c.leaf_count.ensures c.in_ok-n.was in
+    let why = c.in_err-f.field-0.0 in
+    let e : c.from_residual-in_err-f.result ≡ Err why = search rules in
+    ap taken_apart e
+    ∙ fields_refuse (digest_in a.mode.now) a.size a.root.now a.letter.now k.number c.if-root-ne32.false (number_above why)
+    (front_refuses a.size (leaves a.size) a.letter.now (number_above why) (front a.size a.letter.now k c.in_err-f.ensures))
 
 -- nothing has refused it
-pub slice_bounds-items-count : goal.slice_bounds-items-count
-slice_bounds-items-count c =
+pub shared_ref_as_front-is : goal.shared_ref_as_front-is
+shared_ref_as_front-is c =
     let a = c.args in
-    let k = counts_leaves c.leaf_count-c.ensures c.in-Leaves.is in
-    let front = c.take_front-f.ensures ∙ ap (λ (n : ℕ). front_outcome a.size n a.letter.now) (sym k.value) in
-    let taken = fronted a.size (leaves a.size) a.letter.now front c.if-f-ne0.false in
-    taken.within
+    (fronted a.size c.in_ok-n.n a.letter.now c.in_ok-f.ensures).few
 
-pub slice_bounds-items-start : goal.slice_bounds-items-start
-slice_bounds-items-start c =
+pub slice_bounds-root_of-count : goal.slice_bounds-root_of-count
+slice_bounds-root_of-count c =
     let a = c.args in
-    let k = counts_leaves c.leaf_count-c.ensures c.in-Leaves.is in
-    let front = c.take_front-f.ensures ∙ ap (λ (n : ℕ). front_outcome a.size n a.letter.now) (sym k.value) in
-    let taken = fronted a.size (leaves a.size) a.letter.now front c.if-f-ne0.false in
-    omega (arith, taken.within)
+    (fronted a.size c.in_ok-n.n a.letter.now c.in_ok-f.ensures).within
 
-pub slice_bounds-indexes-end : goal.slice_bounds-indexes-end
-slice_bounds-indexes-end c =
+pub slice_bounds-root_of-start : goal.slice_bounds-root_of-start
+slice_bounds-root_of-start c =
     let a = c.args in
-    let k = counts_leaves c.leaf_count-c.ensures c.in-Leaves.is in
-    let front = c.take_front-f.ensures ∙ ap (λ (n : ℕ). front_outcome a.size n a.letter.now) (sym k.value) in
-    let taken = fronted a.size (leaves a.size) a.letter.now front c.if-f-ne0.false in
-    omega (arith, taken.few, taken.indexes_long)
-
-pub slice_bounds-root_of-end : goal.slice_bounds-root_of-end
-slice_bounds-root_of-end c =
-    let a = c.args in
-    let k = counts_leaves c.leaf_count-c.ensures c.in-Leaves.is in
-    let front = c.take_front-f.ensures ∙ ap (λ (n : ℕ). front_outcome a.size n a.letter.now) (sym k.value) in
-    let taken = fronted a.size (leaves a.size) a.letter.now front c.if-f-ne0.false in
-    sym (length-take-le _ _ (omega (arith, taken.few, taken.indexes_long)))
-
-pub slice_bounds-places-end : goal.slice_bounds-places-end
-slice_bounds-places-end c =
-    let a = c.args in
-    let k = counts_leaves c.leaf_count-c.ensures c.in-Leaves.is in
-    let front = c.take_front-f.ensures ∙ ap (λ (n : ℕ). front_outcome a.size n a.letter.now) (sym k.value) in
-    let taken = fronted a.size (leaves a.size) a.letter.now front c.if-f-ne0.false in
-    omega (arith, taken.few, taken.places_long)
-
-pub slice_bounds-root_of-end-2 : goal.slice_bounds-root_of-end-2
-slice_bounds-root_of-end-2 c =
-    let a = c.args in
-    let k = counts_leaves c.leaf_count-c.ensures c.in-Leaves.is in
-    let front = c.take_front-f.ensures ∙ ap (λ (n : ℕ). front_outcome a.size n a.letter.now) (sym k.value) in
-    let taken = fronted a.size (leaves a.size) a.letter.now front c.if-f-ne0.false in
-    sym (length-take-le _ _ (omega (arith, taken.few, taken.places_long)))
+    let t = fronted a.size c.in_ok-n.n a.letter.now c.in_ok-f.ensures in
+    omega (arith, t.within)
 
 -- the root is worked out, with as many digests as are given
 pub overflow_mul-made : goal.overflow_mul-made
@@ -93,59 +71,52 @@ overflow_mul-made c =
     let few : c.root_of-made.result.used ≤ 8192 = rw c.root_of-made.ensures.used_is (count_few _ _) in
     omega arith
 
-pub overflow_add-end : goal.overflow_add-end
-overflow_add-end c =
+pub overflow_add-f : goal.overflow_add-f
+overflow_add-f c =
     let a = c.args in
-    let k = counts_leaves c.leaf_count-c.ensures c.in-Leaves.is in
-    let front = c.take_front-f.ensures ∙ ap (λ (n : ℕ). front_outcome a.size n a.letter.now) (sym k.value) in
-    let taken = fronted a.size (leaves a.size) a.letter.now front c.if-f-ne0.false in
+    let t = fronted a.size c.in_ok-n.n a.letter.now c.in_ok-f.ensures in
     let few : c.root_of-made.result.used ≤ 8192 = rw c.root_of-made.ensures.used_is (count_few _ _) in
-    omega (arith, taken.near)
+    omega (arith, t.near)
 
-pub returns-then-letter-end : goal.returns-then-letter-end
-returns-then-letter-end c =
-    let a = c.args in
-    let k = counts_leaves c.leaf_count-c.ensures c.in-Leaves.is in
-    let digest = digest_in a.mode.now in
-    let front = c.take_front-f.ensures ∙ ap (λ (n : ℕ). front_outcome a.size n a.letter.now) (sym k.value) in
-    let taken = fronted a.size (leaves a.size) a.letter.now front c.if-f-ne0.false in
-    let asked : c.take_front-f.result.end + 32 * c.root_of-made.result.used ≡ exact_for (leaves a.size) a.letter.now =
-    exact_is a.size (leaves a.size) a.letter.now front taken (rw k.value c.root_of-made.ensures.used_is) in
-    fields_refuse digest a.size a.root.now a.letter.now k.number c.if-root-ne32.false
-    (exact_refuses a.size (leaves a.size) a.letter.now front taken (λ h. omega (arith, asked)) c.refused-then-letter-end.ensures)
-    (λ z. omega (arith, ap (λ (o : FieldsOutcome). o.number) c.refused-then-letter-end.ensures))
+-- the length that is asked for
+module _ (size : ℕ) (letter : List ℕ) {n : ℕ} {f : Fields} {used : ℕ} (k : Counts size n) (e : fields_taken f ≡ front_outcome size n letter)
+    (d : used ≡ digest_count n (take f.count f.indexes)) where
+  asked : f.end + 32 * used ≡ exact_for (leaves size) letter
+  asked = exact_is size (leaves size) letter (front size letter k e) (rw k.value d)
 
--- where the letter is as long as these ask, it is taken apart, and the root is the letter's
-pub returns-then-differ-ne0 : goal.returns-then-differ-ne0
-returns-then-differ-ne0 c =
+  -- where the letter is as long as this, it is taken apart
+  fielded : length letter ≡ f.end + 32 * used → fields_taken f ≡ fields_outcome size (leaves size) letter
+  fielded h = exact_passes size (leaves size) letter (front size letter k e) (h ∙ asked)
+
+pub returns-then-letter-f : goal.returns-then-letter-f
+returns-then-letter-f c =
     let a = c.args in
-    let k = counts_leaves c.leaf_count-c.ensures c.in-Leaves.is in
+    let k = counts_leaves c.leaf_count.ensures c.in_ok-n.was in
+    let e = asked a.size a.letter.now k c.in_ok-f.ensures c.root_of-made.ensures.used_is in
+    fields_refuse (digest_in a.mode.now) a.size a.root.now a.letter.now k.number c.if-root-ne32.false (omega arith)
+    (exact_refuses a.size (leaves a.size) a.letter.now (front a.size a.letter.now k c.in_ok-f.ensures) (λ h. omega (arith, e)))
+
+-- and the root is the letter's
+pub returns-then-differ : goal.returns-then-differ
+returns-then-differ c =
+    let a = c.args in
+    let k = counts_leaves c.leaf_count.ensures c.in_ok-n.was in
     let digest = digest_in a.mode.now in
-    let front = c.take_front-f.ensures ∙ ap (λ (n : ℕ). front_outcome a.size n a.letter.now) (sym k.value) in
-    let taken = fronted a.size (leaves a.size) a.letter.now front c.if-f-ne0.false in
-    let asked : c.take_front-f.result.end + 32 * c.root_of-made.result.used ≡ exact_for (leaves a.size) a.letter.now =
-    exact_is a.size (leaves a.size) a.letter.now front taken (rw k.value c.root_of-made.ensures.used_is) in
-    let fielded : taken_apart c.take_front-f.result ≡ fields_outcome a.size (leaves a.size) a.letter.now =
-    exact_passes a.size (leaves a.size) a.letter.now front taken (c.if-letter-end.false ∙ asked) in
+    let t = fielded a.size a.letter.now k c.in_ok-f.ensures c.root_of-made.ensures.used_is c.if-letter-f.false in
     let worked : c.root_of-made.result.digest.bytes ≡ worked_root digest (leaves a.size) a.letter.now =
-    worked_slices a.size (leaves a.size) a.letter.now fielded (apart a.size (leaves a.size) a.letter.now fielded c.if-f-ne0.false) digest
+    worked_slices a.size (leaves a.size) a.letter.now t digest
     (digest_length a.mode.now) (rw k.value k.most) (rw k.value c.root_of-made.ensures.root_is) in
-    root_refuses digest a.size a.root.now a.letter.now k.number c.if-root-ne32.false fielded c.if-f-ne0.false
-    worked (λ z. omega (arith, c.if-differ-ne0.true, c.differ.ensures, z)) c.refused-then-differ-ne0.ensures
+    root_refuses digest a.size a.root.now a.letter.now k.number c.if-root-ne32.false t
+    worked (λ z. omega (arith, ap bit c.if-differ.true, c.differ.ensures, z))
 
 pub returns : goal.returns
 returns c =
     let a = c.args in
-    let k = counts_leaves c.leaf_count-c.ensures c.in-Leaves.is in
+    let k = counts_leaves c.leaf_count.ensures c.in_ok-n.was in
     let digest = digest_in a.mode.now in
-    let front = c.take_front-f.ensures ∙ ap (λ (n : ℕ). front_outcome a.size n a.letter.now) (sym k.value) in
-    let taken = fronted a.size (leaves a.size) a.letter.now front c.if-f-ne0.false in
-    let asked : c.take_front-f.result.end + 32 * c.root_of-made.result.used ≡ exact_for (leaves a.size) a.letter.now =
-    exact_is a.size (leaves a.size) a.letter.now front taken (rw k.value c.root_of-made.ensures.used_is) in
-    let fielded : taken_apart c.take_front-f.result ≡ fields_outcome a.size (leaves a.size) a.letter.now =
-    exact_passes a.size (leaves a.size) a.letter.now front taken (c.if-letter-end.false ∙ asked) in
+    let t = fielded a.size a.letter.now k c.in_ok-f.ensures c.root_of-made.ensures.used_is c.if-letter-f.false in
     let worked : c.root_of-made.result.digest.bytes ≡ worked_root digest (leaves a.size) a.letter.now =
-    worked_slices a.size (leaves a.size) a.letter.now fielded (apart a.size (leaves a.size) a.letter.now fielded c.if-f-ne0.false) digest
+    worked_slices a.size (leaves a.size) a.letter.now t digest
     (digest_length a.mode.now) (rw k.value k.most) (rw k.value c.root_of-made.ensures.root_is) in
-    all_pass digest a.size a.root.now a.letter.now k.number c.if-root-ne32.false fielded c.if-f-ne0.false
-    worked (omega (arith, c.differ.ensures, c.if-differ-ne0.false))
+    all_pass digest a.size a.root.now a.letter.now k.number c.if-root-ne32.false t
+    worked (omega (arith, c.differ.ensures, ap bit c.if-differ.false))

@@ -1,5 +1,6 @@
 -- `passage_fields::index_at` meets its contract: past the end a byte is 0, and so is the index; else the eight bytes are read from the place on.
 use mathlib.Core.Path.{◌≡◌, ap, sym, ◌∙◌}
+use mathlib.Core.Logic.{inl, inr}
 use mathlib.Core.List.{List}
 use Prim.Native.Nat.{ℕ, ◌<◌}
 use native.Mathlib.Nat.{add-zero}
@@ -16,14 +17,15 @@ past : (letter : List ℕ) (at : ℕ) → length letter < at → 0 ≡ index_at 
 unfolding index_at number
 past letter at h = sym (ap number (part_beyond at 8 letter (omega arith)))
 
-pub returns-then-letter-at : goal.returns-then-letter-at
-returns-then-letter-at c = past c.args.letter.now c.args.at (omega arith)
+pub returns-in_default : goal.returns-in_default
+returns-in_default c =
+    past c.args.letter.now c.args.at (elim c.in_default.ensures.lookup.0 [ inl p ↦ p | inr p ↦ absurd (omega arith) ])
 
 pub returns : goal.returns
 unfolding index_at
 returns c =
     let a = c.args in
     c.read8.ensures
-    ∙ ap (λ (l : List ℕ). number (part 0 8 l)) (rest_all a.at a.letter.now)
+    ∙ ap (λ (l : List ℕ). number (part 0 8 l)) (c.in-Some.ensures.lookup.0.2 ∙ rest_all a.at a.letter.now)
     ∙ ap number (part_drop 0 8 a.at a.letter.now)
     ∙ ap (λ (k : ℕ). number (part k 8 a.letter.now)) (add-zero a.at)

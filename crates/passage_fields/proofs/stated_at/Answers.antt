@@ -1,5 +1,6 @@
 -- `passage_fields::stated_at` meets its contract: past the end a byte is 0, and so is the length; else the four bytes are read from the place on.
 use mathlib.Core.Path.{◌≡◌, ap, sym, ◌∙◌}
+use mathlib.Core.Logic.{inl, inr}
 use mathlib.Core.List.{List}
 use Prim.Native.Nat.{ℕ, ◌+◌, ◌<◌}
 use native.Mathlib.Omega.{arith}
@@ -15,13 +16,14 @@ past : (letter : List ℕ) (at : ℕ) → length letter < at → 0 ≡ stated_at
 unfolding stated_at number
 past letter at h = sym (ap number (part_beyond (at + 8) 4 letter (omega arith)))
 
-pub returns-then-letter-at : goal.returns-then-letter-at
-returns-then-letter-at c = past c.args.letter.now c.args.at (omega arith)
+pub returns-in_default : goal.returns-in_default
+returns-in_default c =
+    past c.args.letter.now c.args.at (elim c.in_default.ensures.lookup.0 [ inl p ↦ p | inr p ↦ absurd (omega arith) ])
 
 pub returns : goal.returns
 unfolding stated_at
 returns c =
     let a = c.args in
     c.read4.ensures
-    ∙ ap (λ (l : List ℕ). number (part 8 4 l)) (rest_all a.at a.letter.now)
+    ∙ ap (λ (l : List ℕ). number (part 8 4 l)) (c.in-Some.ensures.lookup.0.2 ∙ rest_all a.at a.letter.now)
     ∙ ap number (part_drop 8 4 a.at a.letter.now)

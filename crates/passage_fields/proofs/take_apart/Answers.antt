@@ -1,28 +1,24 @@
 -- `passage_fields::take_apart` meets its contract: what comes before the exact length, and then that (`Front`).
-use mathlib.Core.Path.{sym}
+use mathlib.Core.Path.{◌≡◌, ap, ◌∙◌}
 use Prim.Native.Nat.{◌≤◌}
 use native.Mathlib.Omega.{arith}
-use lib.Seq.{length-take-le}
+use borrow.Author.Rules.{rules}
+use Rattle.std.specs.Prelude.{Err}
 use Rattle.passage.proofs.Digests.{count_few}
+use Rattle.refusals.proofs.Laws.{number_above}
+use Rattle.passage_fields.specs.Fields.{taken_apart}
 use Rattle.passage_fields.proofs.Front.{front_refuses, fronted, exact_is, exact_refuses, exact_passes}
 use Rattle.passage_fields.proofs.take_apart.Goals as goal
 
-pub returns-then-f-ne0 : goal.returns-then-f-ne0
-returns-then-f-ne0 c =
+pub returns-in_err-f : goal.returns-in_err-f
+returns-in_err-f c =
     let a = c.args in
-    front_refuses a.size a.n a.letter.now c.take_front-f.ensures c.if-f-ne0.true
+    let why = c.in_err-f.field-0.0 in
+    let e : c.from_residual.result ≡ Err why = search rules in
+    ap taken_apart e ∙ front_refuses a.size a.n a.letter.now (number_above why) c.in_err-f.ensures
 
-pub slice_bounds-indexes-end : goal.slice_bounds-indexes-end
-slice_bounds-indexes-end c =
-    let a = c.args in
-    let t = fronted a.size a.n a.letter.now c.take_front-f.ensures c.if-f-ne0.false in
-    omega (arith, t.few, t.indexes_long)
-
-pub slice_bounds-digest_count-end : goal.slice_bounds-digest_count-end
-slice_bounds-digest_count-end c =
-    let a = c.args in
-    let t = fronted a.size a.n a.letter.now c.take_front-f.ensures c.if-f-ne0.false in
-    sym (length-take-le _ _ (omega (arith, t.few, t.indexes_long)))
+pub shared_ref_as_front-digest_count : goal.shared_ref_as_front-digest_count
+shared_ref_as_front-digest_count c = let a = c.args in (fronted a.size a.n a.letter.now c.in_ok-f.ensures).few
 
 -- at most 8,192 digests, and the length that is asked for
 pub overflow_mul-digests : goal.overflow_mul-digests
@@ -33,20 +29,18 @@ overflow_mul-digests c =
 pub overflow_add-f : goal.overflow_add-f
 overflow_add-f c =
     let a = c.args in
-    let t = fronted a.size a.n a.letter.now c.take_front-f.ensures c.if-f-ne0.false in
+    let t = fronted a.size a.n a.letter.now c.in_ok-f.ensures in
     let f : c.digest_count-digests.result ≤ 8192 = rw c.digest_count-digests.ensures (count_few _ _) in
     omega (arith, t.near)
 
 pub returns-then-letter-f : goal.returns-then-letter-f
 returns-then-letter-f c =
     let a = c.args in
-    let t = fronted a.size a.n a.letter.now c.take_front-f.ensures c.if-f-ne0.false in
-    let e = exact_is a.size a.n a.letter.now c.take_front-f.ensures t c.digest_count-digests.ensures in
-    exact_refuses a.size a.n a.letter.now c.take_front-f.ensures t (λ h. omega (arith, e)) c.fields_refused.ensures
+    let e = exact_is a.size a.n a.letter.now c.in_ok-f.ensures c.digest_count-digests.ensures in
+    exact_refuses a.size a.n a.letter.now c.in_ok-f.ensures (λ h. omega (arith, e))
 
 pub returns : goal.returns
 returns c =
     let a = c.args in
-    let t = fronted a.size a.n a.letter.now c.take_front-f.ensures c.if-f-ne0.false in
-    let e = exact_is a.size a.n a.letter.now c.take_front-f.ensures t c.digest_count-digests.ensures in
-    exact_passes a.size a.n a.letter.now c.take_front-f.ensures t (omega (arith, e))
+    let e = exact_is a.size a.n a.letter.now c.in_ok-f.ensures c.digest_count-digests.ensures in
+    exact_passes a.size a.n a.letter.now c.in_ok-f.ensures (omega (arith, e))

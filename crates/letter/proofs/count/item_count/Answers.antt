@@ -9,10 +9,8 @@ use Rattle.letter.specs.Items.{item_count}
 use Rattle.letter.proofs.count.item_count.Goals as goal
 
 pub turns-requires : goal.turns-requires
-turns-requires c = omega (arith, c.height.ensures, height_least c.args.n 64 (omega arith))
+turns-requires c = omega (arith, height_least c.args.n 64 (omega arith))
 
 pub returns : goal.returns
 unfolding item_count way
-returns c =
-    let a = c.args in
-    c.turns.ensures ∙ ap (λ (h : ℕ). length (way_in h a.n a.i)) c.height.ensures
+returns c = c.turns.ensures ∙ ap (λ (h : ℕ). length (way_in h c.args.n c.args.i)) c.height.ensures
