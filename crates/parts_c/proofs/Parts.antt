@@ -6,7 +6,7 @@ use Prim.Native.Nat.{ℕ, ◌≤◌, ◌<◌}
 use lib.ListN.{length}
 use Rattle.wire.specs.Slices.{written}
 use Rattle.parts.specs.declared.Parts.{Parts}
-use Rattle.parts.specs.declared.Ended.{Ended}
+use Rattle.parts.specs.Answers.{Ended}
 use Rattle.parts.specs.Answers.{end_outcome}
 use Rattle.kept.specs.Kept.{Filled, filled, handed}
 use Rattle.parts_c.specs.Parts.{end_call}
