@@ -28,12 +28,11 @@ limits_total n (i ∷ is) (k ∷ ks) e p = omega (arith, total_cons k ks, p.1.0,
 
 module _ (n : ℕ) (is ks : List ℕ) where
   pub record Limits (i : ℕ) : Type 0 where
-    pub within : i ≤ length is
     pub as_many : length ks ≡ length is
     pub same : first_number (limits_order n (drop i is) (drop i ks)) ≡ first_number (limits_order n is ks)
 
   pub limits_begin : length ks ≡ length is → Limits 0
-  limits_begin e = record { within = omega arith; as_many = e; same = refl }
+  limits_begin e = record { as_many = e; same = refl }
 
   module _ {i : ℕ} (l : Limits i) where
     module _ (p : i < length is) where
@@ -56,7 +55,6 @@ module _ (n : ℕ) (is ks : List ℕ) where
         limits_next h =
             let later = limits_order n (drop (i + 1) is) (drop (i + 1) ks) in
             record {
-              within = omega arith;
               as_many = l.as_many;
               same =
                   sym (first_next 3 (get_or ks i 0 above 16384) later h)

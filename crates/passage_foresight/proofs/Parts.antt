@@ -1,12 +1,13 @@
 -- The writer's order in parts: which of them decides, and what is known where none does.
-use mathlib.Core.Path.{◌≡◌}
+use mathlib.Core.Logic.{◌≢◌}
+use mathlib.Core.Path.{◌≡◌, sym}
 use mathlib.Core.List.{List, [], ◌∷◌, ◌++◌}
-use Prim.Native.Nat.{ℕ, suc, ◌*◌, ◌≤◌}
+use Prim.Native.Nat.{ℕ, suc, ◌*◌, ◌≤◌, ◌<◌}
 use native.Mathlib.Omega.{arith}
 use lib.Dec.{T}
 use lib.ListN.{length}
 use Rattle.order.specs.Order.{Test, Refusal, ◌if◌, first_number}
-use Rattle.order.proofs.Laws.{Passes, numbered, numbered_append, clear, pass_parts}
+use Rattle.order.proofs.Laws.{Passes, numbered, numbered_append, clear, pass_parts, pass_whole, first_early, first_late}
 use Rattle.records.specs.Records.{cut, sums_order}
 use Rattle.passage.specs.Request.{rising_order, request_order}
 use Rattle.passage_foresight.specs.Order.{limits_order, foreign_order}
@@ -67,3 +68,49 @@ module _ (n : ℕ) (is whole ks : List ℕ) where
 
     pub foreseen_known : first_number (foreseen_order digest node short n is whole ks) ≡ 0 → Known
     foreseen_known z = known_by (pass_parts limits (4 if short ∷ []) (pass_parts nodes owned (foreseen_pass z)).0).0
+
+    -- ---- the first part that has a refusal decides
+
+    module _ {k : ℕ} (h : 0 < k) where
+      above : k ≢ 0
+      above z = omega arith
+
+      pub by_request : k ≡ first_number (request_order is) → k ≡ first_number (foreseen_order digest node short n is whole ks)
+      by_request e =
+          first_early nodes owned above (first_early limits (4 if short ∷ []) above (first_early sums (limits_order n is ks) above
+          (first_early (request_order is) (sums_order (length is) (length whole) ks) above e)))
+
+    module _ (a : 0 ≡ first_number (request_order is)) where
+      asked : Passes (request_order is)
+      asked = clear (request_order is) (request_numbered is) (sym a)
+
+      pub by_sums : {k : ℕ} → 0 < k → k ≡ first_number (sums_order (length is) (length whole) ks)
+          → k ≡ first_number (foreseen_order digest node short n is whole ks)
+      by_sums h e =
+          first_early nodes owned (above h) (first_early limits (4 if short ∷ []) (above h) (first_early sums (limits_order n is ks) (above h)
+          (first_late (request_order is) (sums_order (length is) (length whole) ks) asked e)))
+
+      module _ (b : 0 ≡ first_number (sums_order (length is) (length whole) ks)) where
+        summed : Passes (sums_order (length is) (length whole) ks)
+        summed = clear (sums_order (length is) (length whole) ks) tt (sym b)
+
+        pub by_limits : {k : ℕ} → 0 < k → k ≡ first_number (limits_order n is ks) → k ≡ first_number (foreseen_order digest node short n is whole ks)
+        by_limits h e =
+            first_early nodes owned (above h) (first_early limits (4 if short ∷ []) (above h)
+            (first_late sums (limits_order n is ks) (pass_whole (request_order is) (sums_order (length is) (length whole) ks) asked summed) e))
+
+        module _ (d : 0 ≡ first_number (limits_order n is ks)) where
+          limited : Passes limits
+          limited =
+              pass_whole sums (limits_order n is ks) (pass_whole (request_order is) (sums_order (length is) (length whole) ks) asked summed)
+              (clear (limits_order n is ks) (limits_numbered n is ks) (sym d))
+
+          pub limits_known : Known
+          limits_known = known_by limited
+
+          pub by_nodes : 4 ≡ first_number (4 if short ∷ []) → 4 ≡ first_number (foreseen_order digest node short n is whole ks)
+          by_nodes e = first_early nodes owned (λ z. omega arith) (first_late limits (4 if short ∷ []) limited e)
+
+          pub by_owned : {k : ℕ} → Passes (4 if short ∷ []) → k ≡ first_number (foreign_order digest node is (cut ks whole))
+              → k ≡ first_number (foreseen_order digest node short n is whole ks)
+          by_owned p e = first_late nodes owned (pass_whole limits (4 if short ∷ []) limited p) e

@@ -5,6 +5,7 @@ use Prim.Native.Nat.{ℕ, ◌+◌, ◌*◌, ◌≤◌}
 use native.Mathlib.Nat.{le_of_eq}
 use native.Mathlib.Omega.{arith}
 use lib.ListN.{length, length-append}
+use Rattle.std.specs.Prelude.{Ok}
 use Rattle.digest.specs.Digest.{digest_in, digest_length}
 use Rattle.wire.specs.Numbers.{be}
 use Rattle.wire.specs.Slices.{splice, written, joined}
@@ -59,7 +60,7 @@ module _ (mode : List ℕ) {size n : ℕ} (is whole ks bs : List ℕ) (k : Count
   pub passage_done : (out : List ℕ) {l₁ l₂ l₃ l₄ : List ℕ} {next : ℕ} (m : ℕ) → m ≡ end_of is whole + 32 * digest_count n is → m ≤ length out
       → l₁ ≡ written 0 (be 8 size) out → l₂ ≡ written 8 (be 2 (length is)) l₁ → Entered is whole ks l₂ next l₃
       → l₄ ≡ written next (joined (digests_of (digest_in mode) (node_in bs) n is)) l₃
-      → wrote (record { number = 0; length = m }) l₄ ≡ write_done (our_passage (digest_in mode) size is (cut ks whole) (node_in bs)) out
+      → wrote (Ok m) l₄ ≡ write_done (our_passage (digest_in mode) size is (cut ks whole) (node_in bs)) out
   unfolding our_passage
   passage_done out {l₄ = l₄} m e fits e₁ e₂ e₃ e₄ =
       let ds : List (List ℕ) = digests_of (digest_in mode) (node_in bs) n is in

@@ -1,21 +1,13 @@
 // The passage letter for a list of indexes, written from a log's nodes.
 #![tactic(auto)]
 
-ghost use Rattle.std.specs.Prelude.{◌≡◌, [], length};
+ghost use Rattle.std.specs.Prelude.{◌≡◌, length};
 ghost use Rattle.digest.specs.Digest.{digest_in};
-ghost use Rattle.wire.specs.Writers.{wrote, write_refused};
+ghost use Rattle.wire.specs.Writers.{wrote};
 ghost use Rattle.passage_writer.specs.Outcome.{write_outcome};
 ghost use Rattle.passage_writer.specs.Steps.{Fitting, Entered};
 
-use shape::Counted;
-use wire::Written;
-
-// A refusal: its number, and length 0.
-fn write_refused(number: u32) -> Written
-    ensures { wrote result [] ≡ write_refused [] number }
-{
-    Written { number, length: 0 }
-}
+use refusals::Refused;
 
 // Writes the records behind the letter's head, each behind its index and its length. Returns the place behind them.
 fn write_entries(indexes: &[u64], records: &[u8], lengths: &[u32], out: &mut [u8]) -> usize
@@ -24,16 +16,14 @@ fn write_entries(indexes: &[u64], records: &[u8], lengths: &[u32], out: &mut [u8
 {
     let mut place = passage::HEAD;
     let mut at = 0;
-    let mut i = 0;
-    while i < indexes.len() {
+    for (i, &index) in indexes.iter().enumerate() {
         let k = lengths[i];
         let end = at + k as usize;
-        wire::write8(out, place, indexes[i]);
+        wire::write8(out, place, index);
         wire::write4(out, place + 8, k);
         wire::write_run(out, place + passage::FRAME, &records[at..end]);
         place = place + passage::FRAME + k as usize;
         at = end;
-        i += 1;
     }
     place
 }
@@ -48,27 +38,21 @@ pub fn write_passage(
     lengths: &[u32],
     nodes: &[u8],
     out: &mut [u8],
-) -> Written
+) -> Result<usize, Refused>
     ensures { wrote result out.new
         ≡ write_outcome (digest_in mode.now) size indexes.now records.now lengths.now nodes.now
         out.old }
 {
-    let c = shape::leaf_count(size);
-    let Counted::Leaves(n) = c else {
-        return write_refused(1);
-    };
-    let met = passage_foresight::foresee(mode, size, n, indexes, records, lengths, nodes);
-    if met != 0 {
-        return write_refused(met);
-    }
+    let n = shape::leaf_count(size)?;
+    passage_foresight::foresee(mode, size, n, indexes, records, lengths, nodes)?;
     let digests = passage::count::digest_count(n, indexes) as usize;
     let length = passage::HEAD + passage::FRAME * indexes.len() + records.len() + 32 * digests;
     if out.len() < length {
-        return write_refused(6);
+        return Err(Refused::OutputTooShort);
     }
     wire::write8(out, 0, size);
     wire::write2(out, 8, indexes.len() as u32);
     let end = write_entries(indexes, records, lengths, out);
     passage_digests::write_digests(mode, out, end, nodes, n, indexes);
-    Written { number: 0, length }
+    Ok(length)
 }

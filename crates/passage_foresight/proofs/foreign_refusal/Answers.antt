@@ -1,5 +1,6 @@
 -- One record after the other: `Owned` has the loop's beginning, a step and its end.
-use mathlib.Core.Path.{refl}
+use mathlib.Core.Path.{refl, ap}
+use Rattle.wire.specs.Slices.{bit}
 use Prim.Native.Nat.{◌+◌, ◌-◌, ◌≤◌}
 use native.Mathlib.Omega.{arith}
 use borrow.Author.Rules.{rules}
@@ -54,14 +55,14 @@ slice_bounds-digest_of-end c =
     omega (arith, cutting_room a.indexes.now a.records.now a.lengths.now l.invariant.place (omega arith)) in
     search rules
 
-pub returns-then-foreign-ne0 : goal.returns-then-foreign-ne0
-returns-then-foreign-ne0 c =
+pub returns-then-foreign : goal.returns-then-foreign
+returns-then-foreign c =
     let a = c.args in
     let l = c.loop-i in
     let compared = foreign_by (digest_in a.mode.now) (node_in a.nodes.now) (get_or a.indexes.now l.i 0)
     (take (l.at + get_or a.lengths.now l.i 0 - l.at) (drop l.at a.records.now)) c.digest_of-own.ensures c.foreign.ensures in
     owned_other (digest_in a.mode.now) (node_in a.nodes.now) a.indexes.now a.records.now a.lengths.now l.invariant
-    (omega arith) refl compared (λ z. omega arith)
+    (omega arith) refl compared (λ z. omega (arith, ap bit c.if-foreign.true))
 
 pub loop-i-preserved : goal.loop-i-preserved
 loop-i-preserved c =
@@ -70,7 +71,7 @@ loop-i-preserved c =
     let compared = foreign_by (digest_in a.mode.now) (node_in a.nodes.now) (get_or a.indexes.now l.i 0)
     (take (l.at + get_or a.lengths.now l.i 0 - l.at) (drop l.at a.records.now)) c.digest_of-own.ensures c.foreign.ensures in
     owned_next (digest_in a.mode.now) (node_in a.nodes.now) a.indexes.now a.records.now a.lengths.now l.invariant
-    (omega arith) refl compared (omega arith)
+    (omega arith) refl compared (ap bit c.if-foreign.false)
 
 pub returns : goal.returns
 returns c =

@@ -1,6 +1,4 @@
--- What each turn of the loop of `foreign_refusal` keeps, and what falls.
-use Prim.Native.Nat.{◌-◌}
-use lib.ListN.{length}
+-- What each turn of the loop of `foreign_refusal` keeps.
 use Rattle.digest.specs.Digest.{digest_in}
 use Rattle.nodes.specs.Nodes.{node_in}
 use Rattle.passage_foresight.proofs.Owned.{Owned}
@@ -8,6 +6,3 @@ use Rattle.passage_foresight.proofs.foreign_refusal.Given as goal
 
 abbrev pub invariant-loop-i : goal.invariant-loop-i
 invariant-loop-i l = Owned (digest_in l.mode) (node_in l.nodes) l.indexes l.records l.lengths l.at l.i
-
-abbrev pub decreases-loop-i : goal.decreases-loop-i
-decreases-loop-i l = length l.indexes - l.i

@@ -1,11 +1,6 @@
--- What each turn of the loop of `limits_refusal` keeps, and what falls.
-use Prim.Native.Nat.{◌-◌}
-use lib.ListN.{length}
+-- What each turn of the loop of `limits_refusal` keeps.
 use Rattle.passage_foresight.proofs.Limits.{Limits}
 use Rattle.passage_foresight.proofs.limits_refusal.Given as goal
 
-abbrev pub invariant-loop-i : goal.invariant-loop-i
-invariant-loop-i l = Limits l.n l.indexes l.lengths l.i
-
-abbrev pub decreases-loop-i : goal.decreases-loop-i
-decreases-loop-i l = length l.indexes - l.i
+abbrev pub invariant-loop-k : goal.invariant-loop-k
+invariant-loop-k l = Limits l.n l.indexes l.lengths l.k
