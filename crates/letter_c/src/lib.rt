@@ -21,13 +21,10 @@ pub extern "C" fn keeper_letter_write(
     ensures { write_left result length.new out.new
         ≡ letter_write_call mode.now size index rec.now nodes.now out.old length.old }
 {
-    match letter_writer::write_letter(mode, size, index, rec, nodes, out) {
-        Ok(n) => {
-            *length = n;
-            0
-        }
-        Err(why) => u32::from(why),
-    }
+    kept::put(
+        letter_writer::write_letter(mode, size, index, rec, nodes, out),
+        length,
+    )
 }
 
 // A letter checked against a trusted size and root: its index, and where in it its record lies.
