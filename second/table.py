@@ -40,6 +40,7 @@ OTHERS = {
 SAID = {
     "/* 15 is struck: it was for a letter of more than 32 items, which no log needs. No call answers it, and it will never mean anything else */",
     "Number 15 is struck: no call returns it, and it will never mean anything else.",
+    "-- the number of a refusal: 15 is struck",
     "-- What writer, checker and finder promise together, over a log's nodes and by the plain rule; and number 15, which is struck.",
 }
 # Lines of each kind that use it, which have to be noticed.
@@ -68,9 +69,12 @@ def strangers(numbers):
     header = {name: int(number) for name, number in re.findall(r"^ +(KEEPER_\w+) = (\d+)", constants, re.M)}
     refusals = {name: int(number) for number, name in re.findall(r"^(\d+) (KEEPER_\w+)$", (TOP / "man" / "keeper.3").read_text(), re.M)}
     words = set(re.findall(r"\[(KEEPER_\w+)\] =", (TOP / "hosts" / "numbers.c").read_text()))
+    stated = dict(re.findall(r"^number_of (\w+) = (\d+)$", (TOP / "crates/refusals/specs/Numbers.antt").read_text(), re.M))
+    answered = dict(re.findall(r"^ +Refused::(\w+) => (\d+),$", (TOP / "crates/refusals/src/lib.rt").read_text(), re.M))
     yield from ["include/keeper.h"] if set(header.values()) != numbers else []
     yield from ["man/keeper.3"] if {"KEEPER_DONE": 0, **refusals} != header else []
     yield from ["hosts/numbers.c"] if words != set(header) else []
+    yield from ["crates/refusals"] if stated != answered or {0, *map(int, stated.values())} != numbers else []
     yield from (where for where, got in order_numbers() if not got <= numbers)
 
 

@@ -10,6 +10,7 @@ use native.Mathlib.Omega.{arith}
 use borrow.Author.Tests.{eq-eqb}
 use lib.Dec.{eqb}
 use lib.ListN.{length}
+use Rattle.std.specs.Prelude.{Ok}
 use Rattle.order.specs.Order.{◌if◌, ◌is◌, ◌is_not◌, ◌above◌}
 use Rattle.order.proofs.Laws.{Step, refuses, passes, late}
 use Rattle.shape.specs.Sizes.{count_answer}
@@ -85,11 +86,11 @@ module _ (digest : List ℕ → List ℕ) (size : ℕ) (whole lengths bs : List 
         (λ s. absurd (z (e ∙ foresight_off (length whole) (length bs) n lengths s)))
 
     -- none: what appending one by one leaves is done
-    pub foreseen_done : number ≡ 0 → {r : Appended} {last : List ℕ} → r.number ≡ 0 → r.hashes ≡ r.size - size
-        → Left (run digest (begun size bs) (cut lengths whole)) r.size last → appended r last ≡ outcome
+    pub foreseen_done : number ≡ 0 → {a : Appended} {last : List ℕ} → a.hashes ≡ a.size - size
+        → Left (run digest (begun size bs) (cut lengths whole)) a.size last → appended size (Ok a) last ≡ outcome
     unfolding batch_done
-    foreseen_done z {r} {last} a h l =
+    foreseen_done z {a} h l =
         let s = foreseen_sum (λ y. omega arith) in
-        let t : r.hashes ≡ hash_total digest (begun size bs) (cut lengths whole) =
+        let t : a.hashes ≡ hash_total digest (begun size bs) (cut lengths whole) =
         omega (arith, l.size, run_counts digest (begun size bs) (cut lengths whole)) in
-        batch_done_lem known s (λ i. record { number = a i; size = l.size i; hashes = t i; bytes = l.bytes i }) (sym (told s) ∙ z)
+        batch_done_lem known s (λ i. record { number = 0; size = l.size i; hashes = t i; bytes = l.bytes i }) (sym (told s) ∙ z)

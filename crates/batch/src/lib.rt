@@ -10,7 +10,7 @@ ghost use Rattle.batch.specs.Batch.{begun, batch_outcome};
 ghost use Rattle.batch.specs.Steps.{Left};
 
 use evidence_log::Appended;
-use shape::Counted;
+use refusals::Refused;
 
 // Appends record after record; the size at the end.
 fn append_each(mode: &[u8; 36], size: u64, records: &[u8], lengths: &[u32], nodes: &mut [u8]) -> u64
@@ -19,14 +19,13 @@ fn append_each(mode: &[u8; 36], size: u64, records: &[u8], lengths: &[u32], node
         result nodes.new }
 {
     let mut grown = size;
-    let mut at = 0;
-    let mut i = 0;
-    while i < lengths.len() {
-        let end = at + lengths[i] as usize;
-        let a = evidence_log::append(mode, grown, &records[at..end], nodes);
-        grown = a.size;
-        at = end;
-        i += 1;
+    let mut rest = records;
+    for &k in lengths {
+        let (rec, after) = rest.split_at(k as usize);
+        if let Ok(a) = evidence_log::append(mode, grown, rec, nodes) {
+            grown = a.size;
+        }
+        rest = after;
     }
     grown
 }
@@ -38,23 +37,15 @@ pub fn append_many(
     records: &[u8],
     lengths: &[u32],
     nodes: &mut [u8],
-) -> Appended
-    ensures { appended result nodes.new
+) -> Result<Appended, Refused>
+    ensures { appended size result nodes.new
         ≡ batch_outcome (digest_in mode.now) size records.now lengths.now nodes.old }
 {
-    let c = shape::leaf_count(size);
-    let Counted::Leaves(n) = c else {
-        return evidence_log::append_refused(1, size);
-    };
-    let met = batch_foresight::foresee(records.len(), nodes.len() as u64, n, lengths);
-    if met != 0 {
-        return evidence_log::append_refused(met, size);
-    }
+    let n = shape::leaf_count(size)?;
+    batch_foresight::foresee(records.len(), nodes.len() as u64, n, lengths)?;
     let grown = append_each(mode, size, records, lengths, nodes);
-    let hashes = grown - size;
-    Appended {
-        number: 0,
+    Ok(Appended {
         size: grown,
-        hashes,
-    }
+        hashes: grown - size,
+    })
 }

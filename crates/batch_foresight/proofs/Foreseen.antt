@@ -2,8 +2,8 @@
 use mathlib.Core.Path.{◌≡◌, refl, sym, ap, ◌∙◌}
 use mathlib.Core.Logic.{by_cases, ◌≢◌}
 use mathlib.Core.List.{List, [], ◌∷◌}
-use Prim.Native.Nat.{ℕ, suc, ◌+◌, ◌-◌, ◌^◌, ◌≤◌, ◌<◌}
-use native.Mathlib.Decide.{ℕ_discrete}
+use Prim.Native.Nat.{ℕ, suc, ◌+◌, ◌-◌, ◌^◌, ◌≤◌, ◌<◌, min}
+use native.Mathlib.Decide.{ℕ_discrete, dec_le}
 use native.Mathlib.Nat.{add-zero}
 use native.Mathlib.Omega.{arith}
 use borrow.Author.Rules.{rules}
@@ -112,14 +112,16 @@ full room n k ks h =
     let e : 2 ≡ first_number (one_order room (suc n) k) = first_is 2 _ (search rules) in
     ap (λ (x : ℕ). or_else x (foreseen room (suc n) ks)) (sym e) ∙ or_here 2 (foreseen room (suc n) ks) (λ z. omega arith)
 
-pub foreseen_full : (room m n : ℕ) (ks : List ℕ) → 2 ^ 32 ≤ m → 2 ^ 32 ≤ n → foreseen room m ks ≡ foreseen room n ks
+foreseen_full : (room m n : ℕ) (ks : List ℕ) → 2 ^ 32 ≤ m → 2 ^ 32 ≤ n → foreseen room m ks ≡ foreseen room n ks
 unfolding foreseen
 foreseen_full room m n [] g h = refl
 foreseen_full room m n (k ∷ ks) g h = full room m k ks g ∙ sym (full room n k ks h)
 
--- what was foreseen of another number of leaves
-pub foresight_from : (bytes room m n : ℕ) (ks : List ℕ) → foreseen room m ks ≡ foreseen room n ks
-    → foresight bytes room m ks ≡ foresight bytes room n ks
-foresight_from bytes room m n ks e =
-    by_cases (ℕ_discrete (total ks) bytes) (λ s. foresight_sum bytes room m ks s ∙ e ∙ sym (foresight_sum bytes room n ks s))
-    (λ s. foresight_off bytes room m ks s ∙ sym (foresight_off bytes room n ks s))
+-- what was foreseen of 2^32 leaves, where there are more
+pub foresight_within : (bytes room n : ℕ) (ks : List ℕ) {base : ℕ} → base ≡ min n (2 ^ 32) → foresight bytes room base ks ≡ foresight bytes room n ks
+foresight_within bytes room n ks {base} e =
+    by_cases (dec_le n (2 ^ 32)) (λ h. let z : base ≡ n = omega arith in ap (λ (x : ℕ). foresight bytes room x ks) z)
+    (λ h.
+    let f = foreseen_full room base n ks (omega arith) (omega arith) in
+    by_cases (ℕ_discrete (total ks) bytes) (λ s. foresight_sum bytes room base ks s ∙ f ∙ sym (foresight_sum bytes room n ks s))
+    (λ s. foresight_off bytes room base ks s ∙ sym (foresight_off bytes room n ks s)))

@@ -4,7 +4,7 @@ ghost use Rattle.chunks.specs.Chunks.{chunked};
 ghost use Rattle.chunks.specs.Lanes.{lane_of, laned, chunk_in, chunked4};
 ghost use Rattle.chunks.specs.Steps.{compressed4};
 
-use crate::{CHUNK_END, CHUNK_START};
+use crate::{CHUNK_END, CHUNK_START, Keying};
 use compression::compress::compress_lane;
 use words::load;
 
@@ -30,8 +30,9 @@ fn compress4(cv: [u32; 32], bytes: &[u8], at: usize, n: u64, flags: u32) -> [u32
     let mut out = [0u32; 32];
     for k in 0..4 {
         let p = 1024 * k + at;
-        let e = p + 64;
-        let v = compress_lane(lane(&cv, k), load(&bytes[p..e]), n + (k as u64), 64, flags);
+        let block = load(&bytes[p..p + 64]);
+        let v = compress_lane(lane(&cv, k), block, n + (k as u64), 64, flags);
+        // word by word: with one copy of the eight the vector code is lost (bench/lanes.sh)
         for i in 0..8 {
             out[8 * k + i] = v[i];
         }
@@ -44,19 +45,19 @@ fn spread(key: [u32; 8]) -> [u32; 32]
     ensures { result ≡ laned (λ k. key) }
 {
     let mut out = [0u32; 32];
-    for i in 0..32 {
-        out[i] = key[i % 8];
+    for k in 0..4 {
+        out[8 * k..8 * k + 8].copy_from_slice(&key);
     }
     out
 }
 
 // The chaining words of four whole chunks, the first of number n.
-fn whole4(key: [u32; 8], flag: u8, n: u64, bytes: &[u8]) -> [u32; 32]
+fn whole4(keying: Keying, n: u64, bytes: &[u8]) -> [u32; 32]
     requires { (length bytes.now ≡ 4096) × (n + 4 ≤ 2 ^ 54) }
-    ensures { result ≡ laned (λ k. chunked key flag 0 (n + k) (chunk_in bytes.now k)) }
+    ensures { result ≡ laned (λ k. chunked keying.words keying.flag 0 (n + k) (chunk_in bytes.now k)) }
 {
-    let flags = flag as u32;
-    let mut cv = spread(key);
+    let flags = keying.flag as u32;
+    let mut cv = spread(keying.words);
     let mut start = CHUNK_START;
     for b in 0..15 {
         let next = compress4(cv, bytes, 64 * b, n, flags + start);
@@ -67,11 +68,11 @@ fn whole4(key: [u32; 8], flag: u8, n: u64, bytes: &[u8]) -> [u32; 32]
 }
 
 // The same for any slice and number: zeros for another length than 4,096 bytes, and for a number above MOST_FIRST.
-pub fn chunk4(key: [u32; 8], flag: u8, n: u64, bytes: &[u8]) -> [u32; 32]
-    ensures { result ≡ chunked4 key flag n bytes.now }
+pub fn chunk4(keying: Keying, n: u64, bytes: &[u8]) -> [u32; 32]
+    ensures { result ≡ chunked4 keying.words keying.flag n bytes.now }
 {
     if bytes.len() != 4096 || MOST_FIRST < n {
         return [0u32; 32];
     }
-    whole4(key, flag, n, bytes)
+    whole4(keying, n, bytes)
 }

@@ -14,27 +14,32 @@ pub const CHUNK_START: u32 = 1;
 
 pub const CHUNK_END: u32 = 2;
 
-// The chaining words of chunk number n in a mode. Flags that are handed in are bytes, so that no sum of them wraps.
-pub fn chunk(key: [u32; 8], flag: u8, root: u8, n: u64, bytes: &[u8]) -> [u32; 8]
-    ensures { result ≡ chunked key flag root n bytes.now }
+// What a mode puts into each compression: the words that chaining begins with, and a flag. A flag is a byte, so that no sum of flags wraps.
+#[derive(Clone, Copy)]
+pub struct Keying {
+    pub words: [u32; 8],
+    pub flag: u8,
+}
+
+// The chaining words of chunk number n in a mode.
+pub fn chunk(keying: Keying, root: u8, n: u64, bytes: &[u8]) -> [u32; 8]
+    ensures { result ≡ chunked keying.words keying.flag root n bytes.now }
 {
-    let flags = flag as u32;
-    let mut cv = key;
+    let flags = keying.flag as u32;
+    let last = bytes.len().saturating_sub(1) / 64;
+    let mut cv = keying.words;
     let mut start = CHUNK_START;
-    let mut at: usize = 0;
-    while 64 < bytes.len() - at {
-        let end = at + 64;
-        let next = compress(cv, load(&bytes[at..end]), n, 64, flags + start);
+    for i in 0..last {
+        let next = compress(cv, load(&bytes[64 * i..64 * i + 64]), n, 64, flags + start);
         cv = next;
         start = 0;
-        at = end;
     }
-    let left = bytes.len() - at;
+    let block = &bytes[64 * last..];
     compress(
         cv,
-        load(&bytes[at..]),
+        load(block),
         n,
-        left as u32,
+        block.len() as u32,
         flags + start + CHUNK_END + root as u32,
     )
 }

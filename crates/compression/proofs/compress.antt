@@ -1,4 +1,3 @@
 -- Laws that the proofs of `src/compress.rt` cite.
 mod Permutation
 mod Quarters
-mod Rounds

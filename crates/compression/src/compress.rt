@@ -10,41 +10,19 @@ pub const START: [u32; 8] = [
 // P: new word i is old word ORDER[i].
 const ORDER: [usize; 16] = [2, 6, 3, 10, 7, 0, 4, 13, 1, 11, 12, 5, 9, 14, 15, 8];
 
-// Four words.
-#[derive(Drop)]
-struct Four {
-    a: u32,
-    b: u32,
-    c: u32,
-    d: u32,
-}
-
-// The word x turned right by k.
-fn turn(x: u32, k: u32) -> u32
-    requires { (0 < k) × (k < 32) }
-    ensures { result ≡ turn_right x k }
-{
-    (x >> k) | (x << (32 - k))
-}
-
 // Four words, mixed with x and y.
-fn mix(a: u32, b: u32, c: u32, d: u32, x: u32, y: u32) -> Four
-    ensures { result.a ∷ result.b ∷ result.c ∷ result.d ∷ [] ≡ mixed a b c d x y }
+fn mix(a: u32, b: u32, c: u32, d: u32, x: u32, y: u32) -> [u32; 4]
+    ensures { result ≡ mixed a b c d x y }
 {
-    let a1 = std::num::wrapping_add_u32(std::num::wrapping_add_u32(a, b), x);
-    let d1 = turn(d ^ a1, 16);
-    let c1 = std::num::wrapping_add_u32(c, d1);
-    let b1 = turn(b ^ c1, 12);
-    let a2 = std::num::wrapping_add_u32(std::num::wrapping_add_u32(a1, b1), y);
-    let d2 = turn(d1 ^ a2, 8);
-    let c2 = std::num::wrapping_add_u32(c1, d2);
-    let b2 = turn(b1 ^ c2, 7);
-    Four {
-        a: a2,
-        b: b2,
-        c: c2,
-        d: d2,
-    }
+    let a1 = a.wrapping_add(b).wrapping_add(x);
+    let d1 = (d ^ a1).rotate_right(16);
+    let c1 = c.wrapping_add(d1);
+    let b1 = (b ^ c1).rotate_right(12);
+    let a2 = a1.wrapping_add(b1).wrapping_add(y);
+    let d2 = (d1 ^ a2).rotate_right(8);
+    let c2 = c1.wrapping_add(d2);
+    let b2 = (b1 ^ c2).rotate_right(7);
+    [a2, b2, c2, d2]
 }
 
 // The columns of s, mixed with the first eight words of m. The four mixes may come in any order: this one, and that of the
@@ -57,7 +35,8 @@ fn columns(s: [u32; 16], m: [u32; 16]) -> [u32; 16]
     let t = mix(s[2], s[6], s[10], s[14], m[4], m[5]);
     let q = mix(s[1], s[5], s[9], s[13], m[2], m[3]);
     [
-        p.a, q.a, t.a, u.a, p.b, q.b, t.b, u.b, p.c, q.c, t.c, u.c, p.d, q.d, t.d, u.d,
+        p[0], q[0], t[0], u[0], p[1], q[1], t[1], u[1], p[2], q[2], t[2], u[2], p[3], q[3], t[3],
+        u[3],
     ]
 }
 
@@ -70,7 +49,8 @@ fn diagonals(s: [u32; 16], m: [u32; 16]) -> [u32; 16]
     let p = mix(s[0], s[5], s[10], s[15], m[8], m[9]);
     let q = mix(s[1], s[6], s[11], s[12], m[10], m[11]);
     [
-        p.a, q.a, t.a, u.a, u.b, p.b, q.b, t.b, t.c, u.c, p.c, q.c, q.d, t.d, u.d, p.d,
+        p[0], q[0], t[0], u[0], u[1], p[1], q[1], t[1], t[2], u[2], p[2], q[2], q[3], t[3], u[3],
+        p[3],
     ]
 }
 
@@ -78,15 +58,15 @@ fn diagonals(s: [u32; 16], m: [u32; 16]) -> [u32; 16]
 fn permute(m: [u32; 16]) -> [u32; 16]
     ensures { result ≡ permuted m }
 {
-    let order = ORDER;
     let mut out = [0u32; 16];
     for i in 0..16 {
-        out[i] = m[order[i]];
+        out[i] = m[ORDER[i]];
     }
     out
 }
 
 // Seven rounds, the message permuted between them.
+#[inline(always)]
 fn seven(s: [u32; 16], m: [u32; 16]) -> [u32; 16]
     ensures { result ≡ rounds 7 s m }
 {
@@ -128,35 +108,17 @@ fn halve(s: [u32; 16]) -> [u32; 8]
     out
 }
 
-// One compression.
-pub fn compress(cv: [u32; 8], m: [u32; 16], n: u64, len: u32, flags: u32) -> [u32; 8]
+// One compression, opened at each call: only so does the loop over the lanes become vector code (bench/lanes.sh).
+#[inline(always)]
+pub fn compress_lane(cv: [u32; 8], m: [u32; 16], n: u64, len: u32, flags: u32) -> [u32; 8]
     ensures { result ≡ compressed cv m n len flags }
 {
     halve(seven(begin(cv, n, len, flags), m))
 }
 
-// `seven` and `compress` once more, for the lanes alone. A function with one call is opened at that call, and only then does the
-// loop over the lanes become vector code: do not merge them (bench/lanes.sh fails if the vector code is lost).
-fn seven_lane(s: [u32; 16], m: [u32; 16]) -> [u32; 16]
-    ensures { result ≡ rounds 7 s m }
-{
-    let t1 = diagonals(columns(s, m), m);
-    let m1 = permute(m);
-    let t2 = diagonals(columns(t1, m1), m1);
-    let m2 = permute(m1);
-    let t3 = diagonals(columns(t2, m2), m2);
-    let m3 = permute(m2);
-    let t4 = diagonals(columns(t3, m3), m3);
-    let m4 = permute(m3);
-    let t5 = diagonals(columns(t4, m4), m4);
-    let m5 = permute(m4);
-    let t6 = diagonals(columns(t5, m5), m5);
-    let m6 = permute(m5);
-    diagonals(columns(t6, m6), m6)
-}
-
-pub fn compress_lane(cv: [u32; 8], m: [u32; 16], n: u64, len: u32, flags: u32) -> [u32; 8]
+// One compression.
+pub fn compress(cv: [u32; 8], m: [u32; 16], n: u64, len: u32, flags: u32) -> [u32; 8]
     ensures { result ≡ compressed cv m n len flags }
 {
-    halve(seven_lane(begin(cv, n, len, flags), m))
+    compress_lane(cv, m, n, len, flags)
 }

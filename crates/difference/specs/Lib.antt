@@ -1,2 +1,3 @@
--- What a comparison answers.
+-- What is found, and what a comparison answers.
+pub mod Findings
 pub mod Outcome

@@ -1,12 +1,13 @@
 -- What a comparison answers, from the root down and then by the records, and what it leaves in the two buffers.
-use Rattle.std.specs.Prelude.{List, [], ◌∷◌, ℕ, zero, suc, length}
+use Rattle.std.specs.Prelude.{List, [], ◌∷◌, ℕ, zero, suc, Result, length}
+use Rattle.refusals.specs.declared.Refused.{Refused}
+use Rattle.refusals.specs.Numbers.{outcome_by}
 use Rattle.order.specs.Order.{Refusal, ◌if◌, ◌under◌, verdict}
 use Rattle.wire.specs.Slices.{splice, differ}
 use Rattle.shape.specs.Difference.{Diff, agree, unequal}
 use Rattle.inputs.specs.Given.{given_difference}
-use Rattle.difference.specs.declared.Finding.{Finding}
-use Rattle.difference.specs.declared.Finding.TheVariants.{Nothing, Same, Records, Pair}
-use Rattle.difference.specs.declared.Found.{Found}
+use Rattle.difference.specs.declared.Finding.{Finding as Found}
+use Rattle.difference.specs.Findings.{Finding, Nothing, Same, Records, Pair, finding_of}
 
 -- the number, what is found, and the two buffers at return: the first is for the log's input, the second for the letter's
 pub record FindOutcome : Type 0 where
@@ -15,20 +16,17 @@ pub record FindOutcome : Type 0 where
   pub first : List ℕ
   pub second : List ℕ
 
--- the outcome by the answer and the two buffers
-abbrev pub found : Found → List ℕ → List ℕ → FindOutcome
-found r first second = record { number = r.number; finding = r.finding; first = first; second = second }
-
--- what is found, as a number for those who have no names
-abbrev pub finding_number : Finding → ℕ
-finding_number Nothing = 0
-finding_number Same = 1
-finding_number Records = 2
-finding_number Pair = 3
-
 -- a refusal: its number, nothing found, and no lent byte changes
 abbrev pub find_refused : List ℕ → List ℕ → ℕ → FindOutcome
 find_refused first second number = record { number = number; finding = Nothing; first = first; second = second }
+
+-- an answer that is found, and no lent byte changes
+abbrev pub find_found : List ℕ → List ℕ → Found → FindOutcome
+find_found first second f = record { number = 0; finding = finding_of f; first = first; second = second }
+
+-- the outcome by the answer and the two buffers
+abbrev pub found : Result Found Refused → List ℕ → List ℕ → FindOutcome
+found r first second = outcome_by (find_refused first second) (find_found first second) r
 
 -- "records" if they differ, else "same"
 abbrev pub by_records : ℕ → Finding

@@ -2,46 +2,31 @@
 #![tactic(auto)]
 
 ghost use Rattle.std.specs.Prelude.{◌≡◌};
-ghost use Rattle.difference.specs.Outcome.{found, finding_number, compare_outcome};
-ghost use Rattle.difference.specs.declared.Finding.TheVariants.{Nothing};
+ghost use Rattle.difference.specs.Findings.{finding_of, finding_number};
+ghost use Rattle.difference.specs.Outcome.{found, compare_outcome};
+
+use refusals::Refused;
 
 pub mod settle;
 
-// What is found. A refusal finds nothing.
-#[derive(Drop)]
+// What is found.
+#[derive(Clone, Copy, Debug, PartialEq, Eq)]
 pub enum Finding {
-    Nothing,
     Same,
     Records,
     Pair,
 }
 
-// The answer of a finder: the number, and what is found.
-#[derive(Drop)]
-pub struct Found {
-    pub number: u32,
-    pub finding: Finding,
-}
-
 // What is found, as a number: 1 for "same", 2 for "records", 3 for "pair".
-pub fn finding_number(finding: Finding) -> u32
-    ensures { result ≡ finding_number finding }
-{
-    match finding {
-        Finding::Nothing => 0,
-        Finding::Same => 1,
-        Finding::Records => 2,
-        Finding::Pair => 3,
-    }
-}
+impl From<Finding> for u32 {
+    ghost from_gives = { λ finding number. number ≡ finding_number (finding_of finding) };
 
-// A refusal.
-pub fn find_refused(number: u32) -> Found
-    ensures { result ≡ record { number = number; finding = Nothing } }
-{
-    Found {
-        number,
-        finding: Finding::Nothing,
+    fn from(finding: Finding) -> u32 {
+        match finding {
+            Finding::Same => 1,
+            Finding::Records => 2,
+            Finding::Pair => 3,
+        }
     }
 }
 
@@ -54,7 +39,7 @@ pub fn compare(
     other: &[u8],
     first: &mut [u8],
     second: &mut [u8],
-) -> Found
+) -> Result<Finding, Refused>
     ensures { found result first.new second.new
         ≡ compare_outcome ours.now theirs.now rec.now other.now
         first.old second.old }

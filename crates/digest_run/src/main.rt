@@ -17,18 +17,18 @@ fn show_first(rt: &impl Print, bytes: &[u8; 2049], n: usize) {
 
 // A line for each length.
 fn show_lengths(rt: &impl Print, bytes: &[u8; 2049]) {
-    let lengths = LENGTHS;
-    for i in 0..10 {
-        show_first(rt, bytes, lengths[i]);
+    for n in LENGTHS {
+        show_first(rt, bytes, n);
     }
 }
 
 // The line of two digests, after its label.
 fn show_pair(rt: &impl Print, label: &[u8], left: Digest, right: Digest) {
-    let mode = digest::plain();
-    let d = digest::digest_of_pair(&mode, left, right);
-    let bytes = d.bytes;
-    say_hex(rt, label, bytes);
+    say_hex(
+        rt,
+        label,
+        digest::digest_of_pair(&digest::plain(), left, right).bytes,
+    );
     end_line(rt);
 }
 
@@ -43,8 +43,6 @@ fn show_pairs(rt: &impl Print) {
 }
 
 fn main(rt: HostRuntime) {
-    let mut bytes = [0u8; 2049];
-    given::fill(0, &mut bytes);
-    show_lengths(&rt, &bytes);
+    show_lengths(&rt, &given::filled(0));
     show_pairs(&rt);
 }

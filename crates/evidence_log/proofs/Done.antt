@@ -3,6 +3,8 @@ use mathlib.Core.Path.{◌≡◌, sym, ap, ap₂, ◌∙◌}
 use mathlib.Core.List.{List}
 use Prim.Native.Nat.{ℕ, suc, ◌+◌, ◌*◌, ◌<◌}
 use native.Mathlib.Omega.{arith}
+use Rattle.std.specs.Prelude.{Ok}
+use Rattle.digest.specs.declared.Digest.{Digest}
 use Rattle.digest.specs.Digest.{digest_in}
 use Rattle.wire.specs.Slices.{splice, joined}
 use Rattle.shape.specs.Sizes.{size_of, trailing_ones, hash_count, height_of, leaves}
@@ -15,7 +17,6 @@ use Rattle.nodes.proofs.From.{from_any}
 use Rattle.new_nodes.specs.Outcome.{put_bytes}
 use Rattle.evidence_log.specs.Outcome.{appended, append_done, put_nodes, rooted, root_done}
 use Rattle.evidence_log.specs.declared.Appended.{Appended}
-use Rattle.evidence_log.specs.declared.Rooted.{Rooted}
 
 module _ (mode : List ℕ) {size n m : ℕ} (rec bs : List ℕ) (k : Counts size n) (e : m ≡ trailing_ones n) where
   -- a leaf at the position of the next, and as many parents as n has trailing ones, are the new nodes
@@ -27,23 +28,21 @@ module _ (mode : List ℕ) {size n m : ℕ} (rec bs : List ℕ) (k : Counts size
       (e ∙ ap trailing_ones (sym k.value))
       (sym k.is ∙ ap size_of (sym k.value))
 
-  pub append_done_lem : {r : Appended} {last : List ℕ} → r.number ≡ 0 → r.size ≡ size + (1 + m) → r.hashes ≡ 1 + m
-      → last ≡ put_bytes (digest_in mode) size m rec bs
-      → appended r last ≡ append_done (digest_in mode) (node_in bs) (put_nodes size bs) size rec
+  pub append_done_lem : {a : Appended} {last : List ℕ} → a.size ≡ size + (1 + m) → a.hashes ≡ 1 + m → last ≡ put_bytes (digest_in mode) size m rec bs
+      → appended size (Ok a) last ≡ append_done (digest_in mode) (node_in bs) (put_nodes size bs) size rec
   unfolding append_done
-  append_done_lem {r} {last} a g c d =
-      let s : r.size ≡ size_of (suc (leaves size)) = g ∙ sym (grown_size k e) in
-      let t : r.hashes ≡ hash_count (leaves size) = c ∙ ap (λ (x : ℕ). 1 + x) (e ∙ ap trailing_ones (sym k.value)) in
+  append_done_lem {a} {last} g c d =
+      let s : a.size ≡ size_of (suc (leaves size)) = g ∙ sym (grown_size k e) in
+      let t : a.hashes ≡ hash_count (leaves size) = c ∙ ap (λ (x : ℕ). 1 + x) (e ∙ ap trailing_ones (sym k.value)) in
       let b : last ≡ put_nodes size bs (new_nodes (digest_in mode) (node_in bs) (leaves size) (digest_in mode rec)) = d ∙ put_new in
-      λ i. record { number = a i; size = s i; hashes = t i; bytes = b i }
+      λ i. record { number = 0; size = s i; hashes = t i; bytes = b i }
 
 -- the peaks folded
-pub root_done_lem : (mode : List ℕ) {size n : ℕ} (bs : List ℕ) → Counts size n → 0 < n → {r : Rooted} → r.number ≡ 0 → r.root.bytes ≡ fold_from (digest_in mode) bs n 0
-    → rooted r ≡ root_done (digest_in mode) (node_in bs) size
+pub root_done_lem : (mode : List ℕ) {size n : ℕ} (bs : List ℕ) → Counts size n → 0 < n → {d : Digest} → d.bytes ≡ fold_from (digest_in mode) bs n 0
+    → rooted (Ok d) ≡ root_done (digest_in mode) (node_in bs) size
 unfolding root_done peaks
-root_done_lem mode {n = n} bs k some {r} a b =
-    let d : r.root.bytes ≡ fold (digest_in mode) (node_in bs) (peaks (leaves _)) =
-    b
+root_done_lem mode {n = n} bs k some b =
+    ap (λ (x : List ℕ). record { number = 0; root = x })
+    (b
     ∙ from_any (digest_in mode) bs n 0 (height_of n) (height_holds n) some k.most (omega arith)
-    ∙ ap (λ (x : ℕ). fold (digest_in mode) (node_in bs) (peaks_in (suc (height_of x)) x 0)) (sym k.value) in
-    λ i. record { number = a i; root = d i }
+    ∙ ap (λ (x : ℕ). fold (digest_in mode) (node_in bs) (peaks_in (suc (height_of x)) x 0)) (sym k.value))

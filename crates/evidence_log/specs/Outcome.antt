@@ -1,6 +1,6 @@
 -- What append and root answer, and what an append leaves in the buffer, for every input and any digest function: over any nodes, a function from
 -- position to digest, with the test of number 4 handed in; then for a log's nodes in a buffer.
-use Rattle.std.specs.Prelude.{List, [], ◌∷◌, ℕ, suc, ◌*◌, length}
+use Rattle.std.specs.Prelude.{List, [], ◌∷◌, Result, ℕ, suc, ◌*◌, length}
 use Rattle.wire.specs.Limits.{most_leaves, longest_record}
 use Rattle.order.specs.Order.{Test, Refusal, ◌if◌, ◌is◌, ◌above◌, ◌under◌, verdict}
 use Rattle.shape.specs.Sizes.{size_of, count_answer, hash_count, leaves}
@@ -8,8 +8,10 @@ use Rattle.shape.specs.Nodes.{new_nodes}
 use Rattle.shape.specs.Positions.{peaks, fold}
 use Rattle.wire.specs.Slices.{splice, zeros, joined}
 use Rattle.nodes.specs.Nodes.{node_in}
+use Rattle.refusals.specs.declared.Refused.{Refused}
+use Rattle.refusals.specs.Numbers.{outcome_by}
+use Rattle.digest.specs.declared.Digest.{Digest}
 use Rattle.evidence_log.specs.declared.Appended.{Appended}
-use Rattle.evidence_log.specs.declared.Rooted.{Rooted}
 
 -- ---- Append
 
@@ -20,12 +22,13 @@ pub record AppendOutcome : Type 0 where
   pub hashes : ℕ
   pub bytes : List ℕ
 
-abbrev pub appended : Appended → List ℕ → AppendOutcome
-appended r bs = record { number = r.number; size = r.size; hashes = r.hashes; bytes = bs }
-
 -- a refusal: the size that was given, count 0, and no byte changed
 abbrev pub append_refused : ℕ → List ℕ → ℕ → AppendOutcome
 append_refused size bs number = record { number = number; size = size; hashes = 0; bytes = bs }
+
+-- by the answer to the size that was given, and the buffer
+abbrev pub appended : ℕ → Result Appended Refused → List ℕ → AppendOutcome
+appended size r bs = outcome_by (append_refused size bs) (λ a. record { number = 0; size = a.size; hashes = a.hashes; bytes = bs }) r
 
 -- no leaf count up to 2^32 has this size; append at 2^32 leaves; record above 16,384; node buffer too short
 unfoldable pub append_order : Test → ℕ → List ℕ → List Refusal
@@ -62,12 +65,13 @@ pub record RootOutcome : Type 0 where
   pub number : ℕ
   pub root : List ℕ
 
-abbrev pub rooted : Rooted → RootOutcome
-rooted r = record { number = r.number; root = r.root.bytes }
-
 -- a refusal: a digest all zero
 abbrev pub root_refused : ℕ → RootOutcome
 root_refused number = record { number = number; root = zeros 32 }
+
+-- by the answer
+abbrev pub rooted : Result Digest Refused → RootOutcome
+rooted r = outcome_by root_refused (λ d. record { number = 0; root = d.bytes }) r
 
 -- no leaf count up to 2^32 has this size; root of an empty log; node buffer too short
 unfoldable pub root_order : Test → ℕ → List Refusal

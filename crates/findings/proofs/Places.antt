@@ -1,14 +1,14 @@
 -- Laws of the first two records that differ: where there are none, the records are the same; else the index stands at their place, and those before
 -- are the same.
 use mathlib.Core.Logic.{◌≢◌}
-use mathlib.Core.Path.{◌≡◌, refl, sym, ap, ap₂, ◌∙◌}
+use mathlib.Core.Path.{◌≡◌, refl, sym, ap₂, ◌∙◌}
 use mathlib.Core.List.{List, [], ◌∷◌}
 use Prim.Native.Nat.{ℕ, suc, ◌<◌}
 use native.Mathlib.Omega.{arith}
 use lib.ListN.{length, get_or, take}
 use Rattle.wire.proofs.Differences.{differ_same, differ_other}
 use Rattle.shape.specs.Difference.{decided}
-use Rattle.findings.specs.Outcome.{Apart, nowhere, from, first_apart}
+use Rattle.findings.specs.Outcome.{nowhere, from, first_apart}
 
 -- ---- the first of each list
 
@@ -23,10 +23,6 @@ module _ (i : ℕ) (is : List ℕ) (r : List ℕ) (rs : List (List ℕ)) (t : Li
 
 -- ---- none
 
--- an index is named, or none is
-named_not : (i : ℕ) → from i ≢ nowhere
-named_not i e = let z : ◌≡◌ {A = ℕ} 0 1 = cc in omega arith
-
 pub apart_nowhere : (is : List ℕ) (rs ts : List (List ℕ)) → length rs ≡ length is → length ts ≡ length is → first_apart is rs ts ≡ nowhere → rs ≡ ts
 apart_nowhere [] [] [] n m e = refl
 apart_nowhere [] [] (t ∷ ts) n m e = absurd (omega arith)
@@ -37,7 +33,7 @@ apart_nowhere (i ∷ is) (r ∷ rs) (t ∷ ts) n m e = elim (decided r t) [
   | yes q ↦
       ap₂ (λ (x : List ℕ) (xs : List (List ℕ)). x ∷ xs) q
       (apart_nowhere is rs ts (omega arith) (omega arith) (sym (apart_next i is r rs t ts q) ∙ e))
-  | no q ↦ absurd (named_not i (sym (apart_here i is r rs t ts q) ∙ e))
+  | no q ↦ absurd (cc (apart_here i is r rs t ts q))
 ]
 
 pub apart_same : (is : List ℕ) (rs : List (List ℕ)) → first_apart is rs rs ≡ nowhere
@@ -47,13 +43,6 @@ apart_same (i ∷ is) [] = refl
 apart_same (i ∷ is) (r ∷ rs) = apart_next i is r rs r rs refl ∙ apart_same is rs
 
 -- ---- some
-
-named_index : {i j : ℕ} → from i ≡ from j → i ≡ j
-named_index {i} {j} e = ap index e
-  where
-    index : Apart → ℕ
-    index nowhere = i
-    index (from k) = k
 
 -- index i stands at a place where the records differ, and before it they are the same
 pub record ApartAt (i : ℕ) (is : List ℕ) (rs ts : List (List ℕ)) : Type 0 where
@@ -65,9 +54,9 @@ pub record ApartAt (i : ℕ) (is : List ℕ) (rs ts : List (List ℕ)) : Type 0 
 
 pub apart_from : (i : ℕ) (is : List ℕ) (rs ts : List (List ℕ)) → first_apart is rs ts ≡ from i → ApartAt i is rs ts
 unfolding first_apart
-apart_from i [] rs ts e = absurd (named_not i (sym e))
-apart_from i (j ∷ is) [] ts e = absurd (named_not i (sym e))
-apart_from i (j ∷ is) (r ∷ rs) [] e = absurd (named_not i (sym e))
+apart_from i [] rs ts e = absurd cc
+apart_from i (j ∷ is) [] ts e = absurd cc
+apart_from i (j ∷ is) (r ∷ rs) [] e = absurd cc
 apart_from i (j ∷ is) (r ∷ rs) (t ∷ ts) e = elim (decided r t) [
   | yes q ↦
       let a = apart_from i is rs ts (sym (apart_next j is r rs t ts q) ∙ e) in
@@ -82,7 +71,7 @@ apart_from i (j ∷ is) (r ∷ rs) (t ∷ ts) e = elim (decided r t) [
       record {
         place = 0;
         within = (omega arith, omega arith, omega arith);
-        index = named_index (sym (apart_here j is r rs t ts q) ∙ e);
+        index = cc (apart_here j is r rs t ts q);
         other = q;
         before = refl;
       }

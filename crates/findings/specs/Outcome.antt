@@ -1,10 +1,11 @@
 -- What a finder of many records answers: as one of a single record does, and with the index of the first two records that differ.
-use Rattle.std.specs.Prelude.{List, [], ◌∷◌, ℕ, zero, suc}
+use Rattle.std.specs.Prelude.{List, [], ◌∷◌, ℕ, zero, suc, Option, None, Some, Result}
+use Rattle.refusals.specs.declared.Refused.{Refused}
+use Rattle.refusals.specs.Numbers.{outcome_by}
 use Rattle.order.specs.Order.{verdict}
 use Rattle.wire.specs.Slices.{splice, differ}
 use Rattle.shape.specs.Difference.{Diff, agree, unequal}
-use Rattle.difference.specs.declared.Finding.{Finding}
-use Rattle.difference.specs.declared.Finding.TheVariants.{Nothing, Same, Records, Pair}
+use Rattle.difference.specs.Findings.{Finding, Nothing, Same, Records, Pair}
 use Rattle.difference.specs.Outcome.{room_order}
 use Rattle.findings.specs.declared.Named.{Named}
 
@@ -25,6 +26,11 @@ abbrev pub apart_of : ℕ → ℕ → Apart
 apart_of zero i = nowhere
 apart_of (suc k) i = from i
 
+-- the same, by the index of the first two that differ, where there are two
+abbrev pub apart_at : Option ℕ → Apart
+apart_at None = nowhere
+apart_at (Some i) = from i
+
 -- the number, what is found, the index that "records" names, and the two buffers at return: the first is for the log's input, the second for the
 -- letter's
 pub record NamedOutcome : Type 0 where
@@ -34,13 +40,29 @@ pub record NamedOutcome : Type 0 where
   pub first : List ℕ
   pub second : List ℕ
 
--- the outcome by the answer and the two buffers
-abbrev pub named : Named → List ℕ → List ℕ → NamedOutcome
-named r first second = record { number = r.number; finding = r.finding; index = r.index; first = first; second = second }
-
 -- a refusal: its number, nothing found, and no lent byte changes
 abbrev pub named_refused : List ℕ → List ℕ → ℕ → NamedOutcome
 named_refused first second number = record { number = number; finding = Nothing; index = 0; first = first; second = second }
+
+-- what is found, by the answer's own case
+abbrev pub finding_of : Named → Finding
+finding_of Named.Same = Same
+finding_of (Named.Records i) = Records
+finding_of Named.Pair = Pair
+
+-- the index that it names: 0 but for "records"
+abbrev pub index_of : Named → ℕ
+index_of Named.Same = 0
+index_of (Named.Records i) = i
+index_of Named.Pair = 0
+
+-- an answer that is found, and no lent byte changes
+abbrev pub named_found : List ℕ → List ℕ → Named → NamedOutcome
+named_found first second n = record { number = 0; finding = finding_of n; index = index_of n; first = first; second = second }
+
+-- the outcome by the answer and the two buffers
+abbrev pub named : Result Named Refused → List ℕ → List ℕ → NamedOutcome
+named r first second = outcome_by (named_refused first second) (named_found first second) r
 
 -- "records" with the index if they differ, else "same". The index is 0 but for "records"
 abbrev pub by_records : Apart → List ℕ → List ℕ → NamedOutcome

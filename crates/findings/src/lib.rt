@@ -2,69 +2,62 @@
 #![tactic(auto)]
 
 ghost use Rattle.std.specs.Prelude.{◌≡◌};
-ghost use Rattle.difference.specs.declared.Finding.TheVariants.{Nothing};
 ghost use Rattle.inputs.specs.Inputs.{told};
-ghost use Rattle.findings.specs.Outcome.{named, apart_of, named_settled};
+ghost use Rattle.difference.specs.Findings.{finding_number};
+ghost use Rattle.findings.specs.Outcome.{finding_of, index_of, named, apart_at, named_settled};
 
 use difference::Finding;
-use inputs::Difference;
+use inputs::Unequal;
+use refusals::Refused;
 
-// The number, what is found, and the index that "records" names, else 0.
-#[derive(Drop)]
-pub struct Named {
-    pub number: u32,
-    pub finding: Finding,
-    pub index: u64,
+// What is found; "records" names the index of the first two that differ.
+#[derive(Clone, Copy, Debug, PartialEq, Eq)]
+pub enum Named {
+    Same,
+    Records(u64),
+    Pair,
 }
 
-// A refusal.
-pub fn named_refused(number: u32) -> Named
-    ensures { result ≡ record { number = number; finding = Nothing; index = 0 } }
-{
-    Named {
-        number,
-        finding: Finding::Nothing,
-        index: 0,
+impl Named {
+    // The index that "records" names, else 0.
+    pub fn index(self) -> u64
+        ensures { result ≡ index_of self }
+    {
+        match self {
+            Named::Records(index) => index,
+            Named::Same | Named::Pair => 0,
+        }
     }
 }
 
-// The answer by the first difference of the inputs and, with none, by the records: the index of the first two that differ, where `apart` is not 0.
-// Refuses by 6, whatever the outcome. Of a pair ours goes into the first buffer, theirs into the second.
+// What is found, as a number: 1 for "same", 2 for "records", 3 for "pair".
+impl From<Named> for u32 {
+    ghost from_gives = { λ named number. number ≡ finding_number (finding_of named) };
+
+    fn from(named: Named) -> u32 {
+        match named {
+            Named::Same => 1,
+            Named::Records(_) => 2,
+            Named::Pair => 3,
+        }
+    }
+}
+
+// The answer by the first difference of the inputs and, with none, by the records: the index of the first two that differ. Refuses by 6, whatever the
+// outcome. Of a pair ours goes into the first buffer, theirs into the second.
 pub fn settle(
-    highest: Difference,
-    apart: u8,
-    index: u64,
+    highest: Option<Unequal>,
+    apart: Option<u64>,
     first: &mut [u8],
     second: &mut [u8],
-) -> Named
+) -> Result<Named, Refused>
     ensures { named result first.new second.new
-        ≡ named_settled (told highest) (apart_of apart index) first.old second.old }
+        ≡ named_settled (told highest) (apart_at apart) first.old second.old }
 {
-    if first.len() < 64 {
-        return named_refused(6);
-    }
-    if second.len() < 64 {
-        return named_refused(6);
-    }
-    if highest.apart != 0 {
-        difference::settle::put(first, highest.ours);
-        difference::settle::put(second, highest.theirs);
-        return Named {
-            number: 0,
-            finding: Finding::Pair,
-            index: 0,
-        };
-    }
-    if apart != 0 {
-        return Named {
-            number: 0,
-            finding: Finding::Records,
-            index,
-        };
-    }
-    Named {
-        number: 0,
-        finding: Finding::Same,
-        index: 0,
+    let finding = difference::settle::settle(highest, apart.is_some(), first, second)?;
+    match (finding, apart) {
+        (Finding::Pair, _) => Ok(Named::Pair),
+        (_, Some(index)) => Ok(Named::Records(index)),
+        (_, None) => Ok(Named::Same),
     }
 }

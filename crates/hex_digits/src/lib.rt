@@ -5,6 +5,7 @@ ghost use Rattle.std.specs.Prelude.{◌≡◌, ◌/◌, ◌%◌, ◌<◌};
 ghost use Rattle.hex_digits.specs.Hex.{digit_of, hex_of};
 
 // The digit of n, in ASCII.
+#[tactic(auto, unfolding(crate::specs::Hex::digit_of))]
 fn digit(n: u8) -> u8
     requires { n < 16 }
     ensures { result ≡ digit_of n }
@@ -31,9 +32,9 @@ pub fn digits_of(bytes: [u8; 32]) -> [u8; 64]
     ensures { result ≡ hex_of bytes }
 {
     let mut out = [0u8; 64];
-    for i in 0..32 {
-        out[2 * i] = high(bytes[i]);
-        out[2 * i + 1] = low(bytes[i]);
+    for (i, &b) in bytes.iter().enumerate() {
+        out[2 * i] = high(b);
+        out[2 * i + 1] = low(b);
     }
     out
 }

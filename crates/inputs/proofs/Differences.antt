@@ -1,12 +1,12 @@
 -- Two inputs side by side: how they differ by their halves, and the first difference of two lists with them in front.
-use mathlib.Core.Path.{◌≡◌, refl, sym, ap, ◌∙◌}
+use mathlib.Core.Path.{◌≡◌, sym, ap, ◌∙◌}
 use mathlib.Core.Logic.{◌≢◌}
 use mathlib.Core.List.{List, ◌∷◌, ◌++◌}
-use Prim.Native.Nat.{ℕ, zero, suc}
+use Prim.Native.Nat.{ℕ}
 use lib.ListN.{length}
 use Rattle.wire.specs.Slices.{differ}
 use Rattle.wire.proofs.Differences.{differ_same, differ_other, same_of_differ}
-use Rattle.shape.specs.Difference.{decided, Diff, difference}
+use Rattle.shape.specs.Difference.{decided, difference}
 use Rattle.shape.proofs.Difference.{difference_same, difference_other}
 use Rattle.shape.proofs.Bind.{fronts, backs}
 use Rattle.inputs.specs.Inputs.{above}
@@ -28,13 +28,6 @@ apart_right l r x y z =
     ]
 
 module _ (a b : List ℕ) where
-  pub above_none : (k : ℕ) (d : Diff) → k ≡ 0 → d ≡ above k a b d
-  above_none k d e = rw e
-
-  pub above_some : (k : ℕ) (d e : Diff) → k ≢ 0 → above k a b d ≡ above k a b e
-  above_some zero d e h = absurd (h refl)
-  above_some (suc k) d e h = refl
-
   -- two lists with one input more in front
   pub above_is : (xs ys : List (List ℕ)) → above (differ a b) a b (difference xs ys) ≡ difference (a ∷ xs) (b ∷ ys)
   above_is xs ys = elim (decided a b) [

@@ -4,26 +4,27 @@ use mathlib.Core.List.{List, ◌∷◌}
 use Prim.Native.Nat.{ℕ, suc, ◌+◌, ◌-◌, ◌*◌, ◌^◌, ◌≤◌, ◌<◌}
 use native.Mathlib.Omega.{arith}
 use Rattle.wire.specs.Slices.{part, differ, rows_from}
-use Rattle.shape.specs.Difference.{Diff, agree, difference}
+use Rattle.shape.specs.Difference.{Diff, difference}
 use Rattle.inputs.specs.declared.Input.{Input}
-use Rattle.inputs.specs.declared.Difference.{Difference}
+use Rattle.std.specs.Prelude.{Option, None}
+use Rattle.inputs.specs.declared.Unequal.{Unequal}
 use Rattle.inputs.specs.Given.{in_both, given_difference}
 use Rattle.inputs.specs.Inputs.{bytes_of, above, told}
 use Rattle.inputs.proofs.Differences.{above_is}
 
 -- the first difference of the inputs from number k on, of m
-pub record Compared (ours theirs : List ℕ) (m k : ℕ) (first : Difference) : Type 0 where
+pub record Compared (ours theirs : List ℕ) (m k : ℕ) (first : Option Unequal) : Type 0 where
   pub within : k ≤ m
   pub small : m ≤ 2 ^ 58
   pub first_is : told first ≡ difference (rows_from 64 (64 * k) (m - k) ours) (rows_from 64 (64 * k) (m - k) theirs)
 
 module _ (ours theirs : List ℕ) where
   -- before any
-  pub compared_none : (m : ℕ) (d : Difference) → m ≤ 2 ^ 58 → told d ≡ agree → Compared ours theirs m m d
+  pub compared_none : (m : ℕ) → m ≤ 2 ^ 58 → Compared ours theirs m m None
   unfolding rows_from difference
-  compared_none m d s e =
+  compared_none m s =
       let z : m - m ≡ 0 = omega arith in
-      record { within = omega arith; small = s; first_is = e ∙ sym (rw (z, rows_from)) }
+      record { within = omega arith; small = s; first_is = sym (rw (z, rows_from)) }
 
   -- the input before
   from_before : (m k : ℕ) (bs : List ℕ) → 0 < k → k ≤ m
@@ -34,7 +35,7 @@ module _ (ours theirs : List ℕ) where
       let f : 64 * (k - 1) + 64 ≡ 64 * k = omega arith in
       rw (e, rows_from, f)
 
-  pub compared_more : (a b : Input) {m k apart : ℕ} {d next : Difference} → Compared ours theirs m k d → 0 < k
+  pub compared_more : (a b : Input) {m k apart : ℕ} {d next : Option Unequal} → Compared ours theirs m k d → 0 < k
       → bytes_of a ≡ part (64 * (k - 1)) 64 ours → bytes_of b ≡ part (64 * (k - 1)) 64 theirs
       → apart ≡ differ (bytes_of a) (bytes_of b) → told next ≡ above apart (bytes_of a) (bytes_of b) (told d)
       → Compared ours theirs m (k - 1) next
@@ -54,7 +55,7 @@ module _ (ours theirs : List ℕ) where
       }
 
   -- after all
-  pub compared_all : {m k : ℕ} {d : Difference} → Compared ours theirs m k d → k ≤ 0 → m ≡ in_both ours theirs → told d ≡ given_difference ours theirs
+  pub compared_all : {m k : ℕ} {d : Option Unequal} → Compared ours theirs m k d → k ≤ 0 → m ≡ in_both ours theirs → told d ≡ given_difference ours theirs
   unfolding given_difference
   compared_all {m} {k} c z e =
       let o : 64 * k ≡ 0 = omega arith in

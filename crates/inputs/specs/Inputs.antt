@@ -1,8 +1,8 @@
 -- What the code's own values are called: the 64 bytes of an input, and a difference with two inputs more above.
-use Rattle.std.specs.Prelude.{List, ◌++◌, ℕ, zero, suc}
+use Rattle.std.specs.Prelude.{List, ◌++◌, ℕ, zero, suc, Option, None, Some}
 use Rattle.shape.specs.Difference.{Diff, agree, unequal}
 use Rattle.inputs.specs.declared.Input.{Input}
-use Rattle.inputs.specs.declared.Difference.{Difference}
+use Rattle.inputs.specs.declared.Unequal.{Unequal}
 
 -- the 64 bytes of an input
 abbrev pub bytes_of : Input → List ℕ
@@ -14,5 +14,6 @@ above zero ours theirs below = below
 above (suc k) ours theirs below = unequal ours theirs
 
 -- a difference by the answer
-abbrev pub told : Difference → Diff
-told d = above d.apart (bytes_of d.ours) (bytes_of d.theirs) agree
+abbrev pub told : Option Unequal → Diff
+told None = agree
+told (Some d) = unequal (bytes_of d.ours) (bytes_of d.theirs)

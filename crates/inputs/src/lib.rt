@@ -2,73 +2,48 @@
 #![tactic(auto)]
 
 ghost use Rattle.std.specs.Prelude.{◌≡◌, ◌*◌, ◌^◌, ◌≤◌};
-ghost use Rattle.wire.specs.Slices.{part, differ};
-ghost use Rattle.shape.specs.Difference.{agree};
+ghost use Rattle.wire.specs.Slices.{part, bit, differ};
 ghost use Rattle.inputs.specs.Given.{in_both, given_difference};
 ghost use Rattle.inputs.specs.Inputs.{bytes_of, told, above};
 
 use digest::Digest;
 
 // What is hashed at a place: two digests, left then right, 64 bytes.
-#[derive(Clone, Copy)]
+#[derive(Clone, Copy, PartialEq, Eq)]
 pub struct Input {
     pub left: Digest,
     pub right: Digest,
 }
 
-// The first difference of two lists of inputs: the two that differ first, where `apart` is not 0.
-#[derive(Drop)]
-pub struct Difference {
-    pub apart: u8,
+// Two inputs at one place that differ.
+#[derive(Clone, Copy, PartialEq, Eq)]
+pub struct Unequal {
     pub ours: Input,
     pub theirs: Input,
 }
 
-// Compares two digests: 0 where they are the same, else 1.
-pub fn digests_differ(a: Digest, b: Digest) -> u8
-    ensures { result ≡ differ a.bytes b.bytes }
+// Whether two digests differ.
+pub fn digests_differ(a: Digest, b: Digest) -> bool
+    ensures { bit result ≡ differ a.bytes b.bytes }
 {
     wire::differ(&a.bytes, &b.bytes)
 }
 
-// Compares two inputs: 0 where they are the same, else 1.
-pub fn inputs_differ(a: Input, b: Input) -> u8
-    ensures { result ≡ differ (bytes_of a) (bytes_of b) }
+// Whether two inputs differ.
+pub fn inputs_differ(a: Input, b: Input) -> bool
+    ensures { bit result ≡ differ (bytes_of a) (bytes_of b) }
 {
-    let d = digests_differ(a.left, b.left);
-    if d != 0 {
-        return d;
-    }
-    digests_differ(a.right, b.right)
-}
-
-// No difference.
-pub fn agreement() -> Difference
-    ensures { told result ≡ agree }
-{
-    let none = Digest { bytes: [0u8; 32] };
-    let ours = Input {
-        left: none,
-        right: none,
-    };
-    Difference {
-        apart: 0,
-        ours,
-        theirs: ours,
-    }
+    digests_differ(a.left, b.left) || digests_differ(a.right, b.right)
 }
 
 // The first difference with two inputs more above: these where they are apart, else the one below.
-pub fn higher(below: Difference, apart: u8, ours: Input, theirs: Input) -> Difference
-    ensures { told result ≡ above apart (bytes_of ours) (bytes_of theirs) (told below) }
+pub fn higher(below: Option<Unequal>, apart: bool, ours: Input, theirs: Input) -> Option<Unequal>
+    ensures { told result ≡ above (bit apart) (bytes_of ours) (bytes_of theirs) (told below) }
 {
-    if apart == 0 {
-        return below;
-    }
-    Difference {
-        apart,
-        ours,
-        theirs,
+    if apart {
+        Some(Unequal { ours, theirs })
+    } else {
+        below
     }
 }
 
@@ -86,25 +61,18 @@ fn input_at(list: &[u8], k: u64) -> Input
 fn in_both(ours: &[u8], theirs: &[u8]) -> u64
     ensures { (result ≡ in_both ours.now theirs.now) × (result ≤ 2 ^ 58) }
 {
-    if ours.len() <= theirs.len() {
-        return ours.len() as u64 / 64;
-    }
-    theirs.len() as u64 / 64
+    ours.len().min(theirs.len()) as u64 / 64
 }
 
 // The first difference of two given lists of inputs, from the last input up, as a walk comes back.
-pub fn first_difference(ours: &[u8], theirs: &[u8]) -> Difference
+pub fn first_difference(ours: &[u8], theirs: &[u8]) -> Option<Unequal>
     ensures { told result ≡ given_difference ours.now theirs.now }
 {
-    let mut first = agreement();
-    let mut k = in_both(ours, theirs);
-    while 0 < k {
-        k -= 1;
+    let mut first = None;
+    for k in (0..in_both(ours, theirs)).rev() {
         let a = input_at(ours, k);
         let b = input_at(theirs, k);
-        let apart = inputs_differ(a, b);
-        let next = higher(first, apart, a, b);
-        first = next;
+        first = higher(first, inputs_differ(a, b), a, b);
     }
     first
 }

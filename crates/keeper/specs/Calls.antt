@@ -1,9 +1,11 @@
 -- What the calls for C answer, and what they leave behind each pointer: the outcome of the call below, with what was there kept on a refusal.
-use Rattle.std.specs.Prelude.{List, ℕ}
+use Rattle.std.specs.Prelude.{◌≡◌, List, ℕ, Result}
+use Rattle.refusals.specs.declared.Refused.{Refused}
 use Rattle.digest.specs.Digest.{digest_in}
 use Rattle.shape.specs.Answers.{Answer}
 use Rattle.kept.specs.Kept.{or_kept, Filled, filled, handed}
-use Rattle.evidence_log.specs.Outcome.{AppendOutcome, append_outcome, root_outcome}
+use Rattle.evidence_log.specs.declared.Appended.{Appended}
+use Rattle.evidence_log.specs.Outcome.{AppendOutcome, appended, append_outcome, root_outcome}
 use Rattle.batch.specs.Batch.{batch_outcome}
 
 -- ---- Sizes, positions, counts
@@ -27,6 +29,11 @@ append_left number size hashes bs = record { number = number; size = size; hashe
 unfoldable pub append_over : ℕ → ℕ → AppendOutcome → AppendOutcome
 unfolding or_kept
 append_over oldSize oldHashes o = or_kept o.number o (append_left o.number oldSize oldHashes o.bytes)
+
+-- what an answer to any size, over any nodes, puts behind the two pointers
+abbrev pub Grown : Result Appended Refused → ℕ → ℕ → ℕ → ℕ → ℕ → Type 0
+Grown answer oldSize oldHashes number newSize hashes =
+    (size : ℕ) (bs : List ℕ) → append_left number newSize hashes bs ≡ append_over oldSize oldHashes (appended size answer bs)
 
 -- one record, and many
 abbrev pub append_call : List ℕ → ℕ → List ℕ → List ℕ → ℕ → ℕ → AppendOutcome

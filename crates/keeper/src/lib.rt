@@ -5,18 +5,18 @@
 ghost use Rattle.std.specs.Prelude.{◌≡◌};
 ghost use Rattle.shape.specs.Sizes.{size_answer, position_answer, count_answer};
 ghost use Rattle.kept.specs.Kept.{filled};
-ghost use Rattle.keeper.specs.Calls.{answered, over, append_left, append_call, append_many_call, digest_call, root_call};
+ghost use Rattle.keeper.specs.Calls.{answered, over, append_left, Grown, append_call, append_many_call, digest_call, root_call};
 ghost use Rattle.keeper.specs.Modes.{plain_call, keyed_call};
 
-use shape::{Counted, Placed, Sized};
+use evidence_log::Appended;
+use refusals::Refused;
 
 // The plain mode.
 #[unsafe(no_mangle)]
 pub extern "C" fn keeper_mode_plain(mode: &mut [u8; 36]) -> u32
     ensures { filled result mode.new ≡ plain_call }
 {
-    let m = digest::plain();
-    *mode = m;
+    *mode = digest::plain();
     0
 }
 
@@ -25,13 +25,7 @@ pub extern "C" fn keeper_mode_plain(mode: &mut [u8; 36]) -> u32
 pub extern "C" fn keeper_mode_keyed(key: &[u8], mode: &mut [u8; 36]) -> u32
     ensures { filled result mode.new ≡ keyed_call key.now mode.old }
 {
-    let k = digest::keyed(key);
-    if k.number != 0 {
-        return k.number;
-    }
-    let m = k.mode;
-    *mode = m;
-    0
+    kept::put(digest::keyed(key), mode)
 }
 
 // The digest of bytes, into the first 32 bytes of out.
@@ -39,13 +33,7 @@ pub extern "C" fn keeper_mode_keyed(key: &[u8], mode: &mut [u8; 36]) -> u32
 pub extern "C" fn keeper_digest(mode: &[u8; 36], bytes: &[u8], out: &mut [u8]) -> u32
     ensures { filled result out.new ≡ digest_call mode.now bytes.now out.old }
 {
-    if out.len() < 32 {
-        return 6;
-    }
-    let d = digest::digest_of(mode, bytes);
-    let b = d.bytes;
-    wire::write_digest(out, 0, b);
-    0
+    kept::hand(digest::digest_of(mode, bytes).bytes, out)
 }
 
 // The size of so many leaves.
@@ -53,12 +41,7 @@ pub extern "C" fn keeper_digest(mode: &[u8; 36], bytes: &[u8], out: &mut [u8]) -
 pub extern "C" fn keeper_size(leaves: u64, size: &mut u64) -> u32
     ensures { answered result size.new ≡ over size.old (size_answer leaves) }
 {
-    let s = shape::size_of(leaves);
-    let Sized::Size(v) = s else {
-        return 2;
-    };
-    *size = v;
-    0
+    kept::put(shape::size_of(leaves), size)
 }
 
 // The position of a leaf.
@@ -66,12 +49,7 @@ pub extern "C" fn keeper_size(leaves: u64, size: &mut u64) -> u32
 pub extern "C" fn keeper_leaf_position(index: u64, position: &mut u64) -> u32
     ensures { answered result position.new ≡ over position.old (position_answer index) }
 {
-    let p = shape::leaf_position(index);
-    let Placed::At(v) = p else {
-        return 5;
-    };
-    *position = v;
-    0
+    kept::put(shape::leaf_position(index), position)
 }
 
 // The leaf count of a size.
@@ -79,12 +57,21 @@ pub extern "C" fn keeper_leaf_position(index: u64, position: &mut u64) -> u32
 pub extern "C" fn keeper_leaf_count(size: u64, leaves: &mut u64) -> u32
     ensures { answered result leaves.new ≡ over leaves.old (count_answer size) }
 {
-    let c = shape::leaf_count(size);
-    let Counted::Leaves(n) = c else {
-        return 1;
-    };
-    *leaves = n;
-    0
+    kept::put(shape::leaf_count(size), leaves)
+}
+
+// Puts the size and the hash count of an append behind their pointers, where it is done: its number.
+fn put_grown(answer: Result<Appended, Refused>, new_size: &mut u64, hashes: &mut u64) -> u32
+    ensures { Grown answer new_size.old hashes.old result new_size.new hashes.new }
+{
+    match answer {
+        Ok(grown) => {
+            *new_size = grown.size;
+            *hashes = grown.hashes;
+            0
+        }
+        Err(why) => u32::from(why),
+    }
 }
 
 // One more record: the new nodes behind the old, the new size and the hash count.
@@ -100,13 +87,7 @@ pub extern "C" fn keeper_append(
     ensures { append_left result new_size.new hashes.new nodes.new
         ≡ append_call mode.now size rec.now nodes.old new_size.old hashes.old }
 {
-    let a = evidence_log::append(mode, size, rec, nodes);
-    if a.number != 0 {
-        return a.number;
-    }
-    *new_size = a.size;
-    *hashes = a.hashes;
-    0
+    put_grown(evidence_log::append(mode, size, rec, nodes), new_size, hashes)
 }
 
 // Many records, joined together, with the length of each: all of them, or none.
@@ -124,13 +105,8 @@ pub extern "C" fn keeper_append_many(
         ≡ append_many_call mode.now size records.now lengths.now nodes.old
         new_size.old hashes.old }
 {
-    let b = batch::append_many(mode, size, records, lengths, nodes);
-    if b.number != 0 {
-        return b.number;
-    }
-    *new_size = b.size;
-    *hashes = b.hashes;
-    0
+    let answer = batch::append_many(mode, size, records, lengths, nodes);
+    put_grown(answer, new_size, hashes)
 }
 
 // The root, into the first 32 bytes of out.
@@ -138,15 +114,8 @@ pub extern "C" fn keeper_append_many(
 pub extern "C" fn keeper_root(mode: &[u8; 36], size: u64, nodes: &[u8], out: &mut [u8]) -> u32
     ensures { filled result out.new ≡ root_call mode.now size nodes.now out.old }
 {
-    let r = evidence_log::root(mode, size, nodes);
-    if r.number != 0 {
-        return r.number;
+    match evidence_log::root(mode, size, nodes) {
+        Ok(root) => kept::hand(root.bytes, out),
+        Err(why) => u32::from(why),
     }
-    if out.len() < 32 {
-        return 6;
-    }
-    let d = r.root;
-    let b = d.bytes;
-    wire::write_digest(out, 0, b);
-    0
 }

@@ -1,5 +1,6 @@
 -- What a call for C leaves behind its pointers: what the call below gives where it is done, and what was there where it refuses.
-use Rattle.std.specs.Prelude.{true, false, List, [], ◌∷◌, ℕ, eqb, length}
+use Rattle.std.specs.Prelude.{true, false, List, [], ◌∷◌, ℕ, Result, Ok, Err, eqb, length}
+use Rattle.refusals.specs.declared.Refused.{Refused}
 use Rattle.order.specs.Order.{Refusal, ◌if◌, ◌under◌, verdict}
 use Rattle.wire.specs.Slices.{splice}
 use Rattle.wire.specs.Writers.{WriteOutcome}
@@ -7,6 +8,11 @@ use Rattle.wire.specs.Writers.{WriteOutcome}
 -- `done` where the call below has the number 0, and `kept` where it refuses
 unfoldable pub or_kept : {X : Type 0} → ℕ → X → X → X
 or_kept number done kept = elim (eqb number 0) [ true ↦ done | false ↦ kept ]
+
+-- the value of an answer, and where there is none what was there
+abbrev pub value_or : {T : Type 0} → T → Result T Refused → T
+value_or old (Ok value) = value
+value_or old (Err why) = old
 
 -- ---- a digest written out
 

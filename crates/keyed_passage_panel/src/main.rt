@@ -1,36 +1,29 @@
 // The program that panels run for a passage of a keyed log: the key (32 bytes), trusted size (8, big-endian), root (32) and one passage letter from
-// standard input, the verdict number in decimal and a newline to standard output. It reads at most 4,459,603 bytes, since a longer letter gets the same
-// number.
+// standard input, the verdict number in decimal and a newline to standard output. It reads at most 4,459,603 bytes, since a longer letter gets the
+// same number.
 #![tactic(auto)]
 
-ghost use Rattle.std.specs.Prelude.{◌≡◌, List, ℕ, take};
-ghost use Rattle.io.specs.Counts.{IsPrefixLen};
-ghost use Rattle.io.specs.Digits.{last_digits, IsDigitCount};
 ghost use Rattle.passage_checker.specs.Outcome.{judged_keyed};
+ghost use Rattle.passage_checker.proofs.Panel.{front_keyed};
 
-use std::io::{Read, Result};
+use panels::Judge;
+use refusals::Refused;
 
-// The verdict number in decimal, by the fewest digits, at the start of out; how many they are.
-fn verdict(input: &[u8], out: &mut [u8; 20]) -> usize
-    ensures within { IsPrefixLen result out.new }
-    ensures count { (whole : List ℕ) → input.now ≡ take 4459603 whole → IsDigitCount 10 1 (judged_keyed whole) result }
-    ensures digits { (whole : List ℕ) → input.now ≡ take 4459603 whole
-        → take result out.new ≡ last_digits 10 result (judged_keyed whole) }
-{
-    io::decimal(passage_checker::judge_keyed(input) as u64, out)
+// A passage letter of a keyed log: more bytes than the longest one has, with key, size and root before it.
+struct KeyedPassage;
+
+impl Judge<4459603> for KeyedPassage {
+    ghost judged = { judged_keyed };
+
+    fn judge(input: &[u8]) -> Result<(), Refused> {
+        passage_checker::judge_keyed(input)
+    }
+
+    ghost front = { front_keyed };
 }
 
-// Fills a buffer from standard input, and writes the verdict on what was read.
-fn answer(rt: &impl Print, stdin: &mut impl Read, input: &mut [u8]) -> Result<()> {
-    let n = streams::read_full(stdin, input);
-    let mut text = [0u8; 20];
-    let k = verdict(&input[..n], &mut text);
-    rt.write_all(&text[..k])?;
-    rt.write_all(b"\n")
-}
-
-// The one buffer, which is lent and never copied: more than the longest letter, with key, size and root before it.
-fn main(rt: HostRuntime) -> Result<()> {
+// The one buffer is lent and never copied.
+fn main(rt: HostRuntime) -> std::io::Result<()> {
     let mut input = [0u8; 4459603];
-    answer(&rt, &mut rt.stdin(), &mut input)
+    panels::answer::<KeyedPassage, 4459603>(&rt, &mut rt.stdin(), &mut input)
 }

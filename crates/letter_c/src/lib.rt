@@ -21,12 +21,10 @@ pub extern "C" fn keeper_letter_write(
     ensures { write_left result length.new out.new
         ≡ letter_write_call mode.now size index rec.now nodes.now out.old length.old }
 {
-    let w = letter_writer::write_letter(mode, size, index, rec, nodes, out);
-    if w.number != 0 {
-        return w.number;
-    }
-    *length = w.length;
-    0
+    kept::put(
+        letter_writer::write_letter(mode, size, index, rec, nodes, out),
+        length,
+    )
 }
 
 // A letter checked against a trusted size and root: its index, and where in it its record lies.
@@ -44,14 +42,15 @@ pub extern "C" fn keeper_letter_check(
         ≡ letter_check_call mode.now size root.now letter.now
         index.old record_at.old record_len.old }
 {
-    let c = letter_checker::check(mode, size, root, letter);
-    if c.number != 0 {
-        return c.number;
+    match letter_checker::check(mode, size, root, letter) {
+        Ok(f) => {
+            *index = f.index;
+            *record_at = f.start;
+            *record_len = f.length;
+            0
+        }
+        Err(why) => u32::from(why),
     }
-    *index = c.index;
-    *record_at = c.start;
-    *record_len = c.length;
-    0
 }
 
 // A letter compared with the log's own nodes and the record that the log has there: what is found, and for a pair the log's input into the first 64 bytes
@@ -71,11 +70,11 @@ pub extern "C" fn keeper_find(
         ≡ find_call mode.now size nodes.now rec.now letter.now
         first.old second.old found.old }
 {
-    let f = letter_finder::find(mode, size, nodes, rec, letter, first, second);
-    if f.number != 0 {
-        return f.number;
+    match letter_finder::find(mode, size, nodes, rec, letter, first, second) {
+        Ok(finding) => {
+            *found = u32::from(finding);
+            0
+        }
+        Err(why) => u32::from(why),
     }
-    let finding = f.finding;
-    *found = difference::finding_number(finding);
-    0
 }

@@ -1,15 +1,17 @@
 -- What checking a letter returns, for every input and any digest function; the record beside it; what the panel's programs print.
-use Rattle.std.specs.Prelude.{true, false, List, ◌∷◌, ℕ, ltb, length, drop}
+use Rattle.std.specs.Prelude.{true, false, List, ◌∷◌, ℕ, Result, ltb, length, drop}
 use Rattle.std.specs.Borrow.{Bor}
+use Rattle.refusals.specs.declared.Refused.{Refused}
+use Rattle.refusals.specs.Numbers.{outcome_by}
 use Rattle.order.specs.Order.{Refusal, ◌if◌, ◌is◌, ◌is_not◌, verdict}
 use Rattle.wire.specs.Numbers.{number}
 use Rattle.wire.specs.Slices.{part}
 use Rattle.wire.specs.Lent.{Part, part_of}
 use Rattle.digest.specs.UnderKey.{under_key}
 use Rattle.shape.specs.Sizes.{count_answer, leaves}
+use Rattle.letter.specs.declared.Fields.{Fields}
 use Rattle.letter.specs.Bytes.{head, index_in, stated_in}
 use Rattle.letter.specs.Checking.{from7}
-use Rattle.letter_checker.specs.declared.Checked.{Checked}
 
 -- the number, the index, and the record as a part of the letter: where it starts in it, and its length
 pub record CheckOutcome : Type 0 where
@@ -18,10 +20,6 @@ pub record CheckOutcome : Type 0 where
   pub start : ℕ
   pub length : ℕ
 
--- the outcome by the answer
-abbrev pub checked : Checked → CheckOutcome
-checked r = record { number = r.number; index = r.index; start = r.start; length = r.length }
-
 -- a refusal: its number, index 0, and the record an empty part at the start
 abbrev pub check_refused : ℕ → CheckOutcome
 check_refused number = record { number = number; index = 0; start = 0; length = 0 }
@@ -29,6 +27,13 @@ check_refused number = record { number = number; index = 0; start = 0; length = 
 -- done: the index, and the record, which follows size, index and record length
 abbrev pub check_done : List ℕ → CheckOutcome
 check_done letter = record { number = 0; index = index_in letter; start = head; length = stated_in letter }
+
+-- the outcome by the answer, the fields or why there are none
+abbrev pub check_told : Fields → CheckOutcome
+check_told f = record { number = 0; index = f.index; start = f.start; length = f.length }
+
+abbrev pub checked : Result Fields Refused → CheckOutcome
+checked r = outcome_by check_refused check_told r
 
 -- the record's bytes, by the outcome
 unfoldable pub record_by : CheckOutcome → List ℕ → List ℕ

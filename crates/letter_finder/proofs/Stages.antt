@@ -14,7 +14,7 @@ use Rattle.evidence_log.specs.Outcome.{root_order}
 use Rattle.letter.specs.Bytes.{index_in, record_in}
 use Rattle.letter.specs.Items.{worked_root}
 use Rattle.letter.specs.Checking.{behind_order, fields_order, from7}
-use Rattle.difference.specs.declared.Finding.TheVariants.{Same}
+use Rattle.difference.specs.Findings.{Same}
 use Rattle.difference.specs.Outcome.{FindOutcome, find_refused, find_done, room_order, settled}
 use Rattle.letter_finder.specs.Outcome.{own_root, first_difference, own_order, find_order, find_over}
 use Rattle.difference.proofs.Settled.{done_zero, same_done, same_refused}

@@ -1,35 +1,35 @@
 // A letter of the right form compared with the nodes.
-ghost use Rattle.std.specs.Prelude.{◌≡◌, ◌^◌, ◌≤◌, ◌<◌};
+ghost use Rattle.std.specs.Prelude.{◌≡◌, ◌^◌, ◌≤◌, ◌<◌, false};
 ghost use Rattle.digest.specs.Digest.{digest_in};
+ghost use Rattle.wire.specs.Slices.{bit};
 ghost use Rattle.shape.specs.Seen.{broken};
 ghost use Rattle.nodes.specs.Nodes.{node_in};
 ghost use Rattle.difference.specs.Outcome.{found};
 ghost use Rattle.letter_finder.specs.Steps.{against_outcome};
 
-use difference::Found;
+use difference::Finding;
 use digest::Digest;
+use refusals::Refused;
 
 // The digest of the log's own record, which is the letter's leaf where the two records are the same.
-fn own_digest(mode: &[u8; 36], apart: u8, leaf: Digest, rec: &[u8]) -> Digest
-    requires { apart ≡ 0 → leaf.bytes ≡ digest_in mode.now rec.now }
+fn own_digest(mode: &[u8; 36], apart: bool, leaf: Digest, rec: &[u8]) -> Digest
+    requires { apart ≡ false → leaf.bytes ≡ digest_in mode.now rec.now }
     ensures { result.bytes ≡ digest_in mode.now rec.now }
 {
-    if apart == 0 {
-        return leaf;
+    if apart {
+        digest::digest_of(mode, rec)
+    } else {
+        leaf
     }
-    digest::digest_of(mode, rec)
 }
 
-// 1 where a node on the path, within its peak, isn't the digest of its two children, else 0. Where no input differs, each is, and the path is not
-// looked at again.
-fn way_broken(mode: &[u8; 36], nodes: &[u8], n: u64, i: u64, apart: u8) -> u8
-    requires { (i < n) × (n ≤ 2 ^ 32) × (apart ≡ 0 → broken (digest_in mode.now) (node_in nodes.now) n i ≡ 0) }
-    ensures { result ≡ broken (digest_in mode.now) (node_in nodes.now) n i }
+// Whether a node on the path, within its peak, isn't the digest of its two children. Where no input differs, each is, and the path is not looked at
+// again.
+fn way_broken(mode: &[u8; 36], nodes: &[u8], n: u64, i: u64, apart: bool) -> bool
+    requires { (i < n) × (n ≤ 2 ^ 32) × (apart ≡ false → broken (digest_in mode.now) (node_in nodes.now) n i ≡ 0) }
+    ensures { bit result ≡ broken (digest_in mode.now) (node_in nodes.now) n i }
 {
-    if apart == 0 {
-        return 0;
-    }
-    letter_walk::broken_to(mode, nodes, n, i)
+    apart && letter_walk::broken_to(mode, nodes, n, i)
 }
 
 // Compares the record `theirs` and the items of a letter for index i with the nodes of n leaves. Refuses by 9, then by 3 and 13 for the log's own
@@ -44,7 +44,7 @@ pub(crate) fn against(
     items: &[u8],
     first: &mut [u8],
     second: &mut [u8],
-) -> Found
+) -> Result<Finding, Refused>
     requires { (i < n) × (n ≤ 2 ^ 32) }
     ensures { found result first.new second.new
         ≡ against_outcome (digest_in mode.now) nodes.now n i rec.now theirs.now items.now
@@ -52,20 +52,19 @@ pub(crate) fn against(
 {
     let leaf = digest::digest_of(mode, theirs);
     let w = letter_walk::walk_to(mode, nodes, items, n, i, leaf);
-    if inputs::digests_differ(w.log, w.letter) != 0 {
-        return difference::find_refused(9);
+    if inputs::digests_differ(w.log, w.letter) {
+        return Err(Refused::OtherRoot);
     }
     if wire::LONGEST_RECORD < rec.len() {
-        return difference::find_refused(3);
+        return Err(Refused::RecordTooLong);
     }
     let apart = wire::differ(rec, theirs);
     let own = own_digest(mode, apart, leaf, rec);
-    if letter::leaf::foreign(nodes, i, own) != 0 {
-        return difference::find_refused(13);
+    if letter::leaf::foreign(nodes, i, own) {
+        return Err(Refused::OtherRecord);
     }
-    let highest = w.difference;
-    if way_broken(mode, nodes, n, i, highest.apart) != 0 {
-        return difference::find_refused(14);
+    if way_broken(mode, nodes, n, i, w.difference.is_some()) {
+        return Err(Refused::BrokenNode);
     }
-    difference::settle::settle(highest, apart, first, second)
+    difference::settle::settle(w.difference, apart, first, second)
 }

@@ -1,34 +1,32 @@
 // Whether a node on the path, within its peak, isn't the digest of its two children.
 ghost use Rattle.std.specs.Prelude.{◌≡◌, suc};
 ghost use Rattle.digest.specs.Digest.{digest_in};
-ghost use Rattle.shape.specs.Seen.{either, broken_in};
+ghost use Rattle.wire.specs.Slices.{bit};
+ghost use Rattle.shape.specs.Seen.{broken_in};
 ghost use Rattle.nodes.specs.Nodes.{node_in};
 ghost use Rattle.letter_walk.specs.Steps.{top_broken, Forkable, Walkable};
 
-// 1 where the node on top of a fork isn't the digest of its two children, else what is known of those below. Above the peaks no node stands there.
-fn or_top(mode: &[u8; 36], nodes: &[u8], half: u64, rest: u64, mid: u64, below: u8) -> u8
+// Whether the node on top of a fork isn't the digest of its two children. Above the peaks no node stands there.
+fn top_broken(mode: &[u8; 36], nodes: &[u8], half: u64, rest: u64, mid: u64) -> bool
     requires { Forkable half mid 0 }
-    ensures { result ≡ either (top_broken (digest_in mode.now) nodes.now half rest mid) below }
+    ensures { bit result ≡ top_broken (digest_in mode.now) nodes.now half rest mid }
 {
     if rest != half {
-        return below;
+        return false;
     }
     let left = nodes::node_at(nodes, mid - 1);
     let right = nodes::node_at(nodes, mid + (2 * half - 2));
     let top = nodes::node_at(nodes, mid + (2 * half - 1));
-    if inputs::digests_differ(top, digest::digest_of_pair(mode, left, right)) == 0 {
-        return below;
-    }
-    1
+    inputs::digests_differ(top, digest::digest_of_pair(mode, left, right))
 }
 
-// 1 where a node on the way to leaf i of n leaves whose nodes begin at position s, n at most 2^h, isn't the digest of its two children, else 0.
-pub(crate) fn on_way(mode: &[u8; 36], nodes: &[u8], h: u32, n: u64, i: u64, s: u64) -> u8
+// Whether a node on the way to leaf i of n leaves whose nodes begin at position s, n at most 2^h, isn't the digest of its two children.
+pub(crate) fn on_way(mode: &[u8; 36], nodes: &[u8], h: u32, n: u64, i: u64, s: u64) -> bool
     requires { Walkable h n i s 0 }
-    ensures { result ≡ broken_in (digest_in mode.now) (node_in nodes.now) (suc h) n i s }
+    ensures { bit result ≡ broken_in (digest_in mode.now) (node_in nodes.now) (suc h) n i s }
 {
     if h == 0 {
-        return 0;
+        return false;
     }
     let g = h - 1;
     let half = shape::power(g);
@@ -37,10 +35,11 @@ pub(crate) fn on_way(mode: &[u8; 36], nodes: &[u8], h: u32, n: u64, i: u64, s: u
     }
     let mid = s + (2 * half - 1);
     let rest = n - half;
-    if i < half {
-        let below = on_way(mode, nodes, g, half, i, s);
-        return or_top(mode, nodes, half, rest, mid, below);
+    if top_broken(mode, nodes, half, rest, mid) {
+        return true;
     }
-    let below = on_way(mode, nodes, g, rest, i - half, mid);
-    or_top(mode, nodes, half, rest, mid, below)
+    if i < half {
+        return on_way(mode, nodes, g, half, i, s);
+    }
+    on_way(mode, nodes, g, rest, i - half, mid)
 }

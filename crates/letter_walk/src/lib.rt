@@ -3,6 +3,7 @@
 
 ghost use Rattle.std.specs.Prelude.{◌≡◌};
 ghost use Rattle.digest.specs.Digest.{digest_in};
+ghost use Rattle.wire.specs.Slices.{bit};
 ghost use Rattle.nodes.specs.Nodes.{node_in};
 ghost use Rattle.letter_walk.specs.Outcome.{walked_off, walk_none, walk_outcome, broken_outcome};
 
@@ -10,7 +11,7 @@ mod broken;
 mod walk;
 
 use digest::Digest;
-use inputs::Difference;
+use inputs::Unequal;
 
 // What the walk knows of a part of the tree: the digest on top of it by the log and by the letter, how many items the letter's took, and the first
 // difference of the inputs.
@@ -19,7 +20,7 @@ pub struct Trail {
     pub log: Digest,
     pub letter: Digest,
     pub used: u64,
-    pub difference: Difference,
+    pub difference: Option<Unequal>,
 }
 
 // Nothing found.
@@ -30,7 +31,7 @@ fn nothing() -> Trail
         log: Digest { bytes: [0u8; 32] },
         letter: Digest { bytes: [0u8; 32] },
         used: 0,
-        difference: inputs::agreement(),
+        difference: None,
     }
 }
 
@@ -44,12 +45,12 @@ pub fn walk_to(mode: &[u8; 36], nodes: &[u8], items: &[u8], n: u64, i: u64, leaf
     walk::walk(mode, nodes, items, shape::height(n), n, i, 0, leaf, 0)
 }
 
-// 1 where a node on the way to leaf i of n leaves, n at most 2^32, within its peak, isn't the digest of its two children, else 0.
-pub fn broken_to(mode: &[u8; 36], nodes: &[u8], n: u64, i: u64) -> u8
-    ensures { result ≡ broken_outcome (digest_in mode.now) (node_in nodes.now) n i }
+// Whether a node on the way to leaf i of n leaves, n at most 2^32, within its peak, isn't the digest of its two children.
+pub fn broken_to(mode: &[u8; 36], nodes: &[u8], n: u64, i: u64) -> bool
+    ensures { bit result ≡ broken_outcome (digest_in mode.now) (node_in nodes.now) n i }
 {
     if n <= i || shape::MOST_LEAVES < n {
-        return 0;
+        return false;
     }
     broken::on_way(mode, nodes, shape::height(n), n, i, 0)
 }

@@ -1,5 +1,5 @@
 // The walk from the root of the folded tree down to a leaf, the log's side beside the letter's.
-ghost use Rattle.std.specs.Prelude.{◌≡◌};
+ghost use Rattle.std.specs.Prelude.{◌≡◌, false};
 ghost use Rattle.digest.specs.Digest.{digest_in};
 ghost use Rattle.inputs.specs.Inputs.{bytes_of};
 ghost use Rattle.letter_walk.specs.Steps.{crown, Forkable, OneFork, Walkable, Walked};
@@ -17,19 +17,19 @@ fn crown(
     rest: u64,
     mid: u64,
     ours: Input,
-    apart: u8,
+    apart: bool,
     letter: Digest,
 ) -> Digest
-    requires { Forkable half mid 0 × (apart ≡ 0 → letter.bytes ≡ digest_in mode.now (bytes_of ours)) }
+    requires { Forkable half mid 0 × (apart ≡ false → letter.bytes ≡ digest_in mode.now (bytes_of ours)) }
     ensures { result.bytes ≡ crown nodes.now half rest mid (digest_in mode.now (bytes_of ours)) }
 {
     if rest == half {
         return nodes::node_at(nodes, mid + (2 * half - 1));
     }
-    if apart == 0 {
-        return letter;
+    if apart {
+        return digest::digest_of_pair(mode, ours.left, ours.right);
     }
-    digest::digest_of_pair(mode, ours.left, ours.right)
+    letter
 }
 
 // One fork above a walk: what the log hashes there and what the letter hashes.
@@ -78,7 +78,7 @@ pub(crate) fn walk(
             log: nodes::node_at(nodes, s),
             letter: leaf,
             used: 0,
-            difference: inputs::agreement(),
+            difference: None,
         };
     }
     let g = h - 1;
@@ -90,59 +90,38 @@ pub(crate) fn walk(
     let rest = n - half;
     if i < half {
         let low = walk(mode, nodes, items, g, half, i, s, leaf, from);
-        let left = low.log;
-        let own = low.letter;
         let right = nodes::fold_from(mode, nodes, rest, mid);
         let side = nodes::node_at(items, from + low.used);
-        return fork(
-            mode,
-            nodes,
-            half,
-            rest,
-            mid,
-            low,
-            Input { left, right },
-            Input {
-                left: own,
-                right: side,
-            },
-        );
+        let ours = Input {
+            left: low.log,
+            right,
+        };
+        let theirs = Input {
+            left: low.letter,
+            right: side,
+        };
+        return fork(mode, nodes, half, rest, mid, low, ours, theirs);
     }
     let left = nodes::node_at(nodes, mid - 1);
-    if rest == half {
+    // Within a peak the side is the item behind those of the walk below, above the peaks it is the first.
+    let (low, side) = if rest == half {
         let low = walk(mode, nodes, items, g, rest, i - half, mid, leaf, from);
         let side = nodes::node_at(items, from + low.used);
-        let right = low.log;
-        let own = low.letter;
-        return fork(
-            mode,
-            nodes,
-            half,
-            rest,
-            mid,
-            low,
-            Input { left, right },
-            Input {
-                left: side,
-                right: own,
-            },
-        );
-    }
-    let side = nodes::node_at(items, from);
-    let low = walk(mode, nodes, items, g, rest, i - half, mid, leaf, from + 1);
-    let right = low.log;
-    let own = low.letter;
-    fork(
-        mode,
-        nodes,
-        half,
-        rest,
-        mid,
-        low,
-        Input { left, right },
-        Input {
-            left: side,
-            right: own,
-        },
-    )
+        (low, side)
+    } else {
+        let side = nodes::node_at(items, from);
+        (
+            walk(mode, nodes, items, g, rest, i - half, mid, leaf, from + 1),
+            side,
+        )
+    };
+    let ours = Input {
+        left,
+        right: low.log,
+    };
+    let theirs = Input {
+        left: side,
+        right: low.letter,
+    };
+    fork(mode, nodes, half, rest, mid, low, ours, theirs)
 }

@@ -4,6 +4,7 @@ use mathlib.Core.List.{List, ◌++◌}
 use Prim.Native.Nat.{ℕ, ◌+◌, ◌*◌, ◌≤◌, ◌<◌}
 use native.Mathlib.Omega.{arith}
 use lib.ListN.{length, length-append}
+use Rattle.std.specs.Prelude.{Ok}
 use Rattle.digest.specs.Digest.{digest_in, digest_length}
 use borrow.Author.Rules.{rules}
 use Rattle.order.specs.Order.{◌under◌}
@@ -57,7 +58,7 @@ module _ (mode : List ℕ) {size n : ℕ} (index : ℕ) (rec bs : List ℕ) (k :
   pub letter_done : (out : List ℕ) {l₁ l₂ l₃ l₄ l₅ : List ℕ} (m : ℕ) → m ≡ 20 + length rec + 32 * item_count n index → m ≤ length out
       → l₁ ≡ written 0 (be 8 size) out → l₂ ≡ written 8 (be 8 index) l₁ → l₃ ≡ written 16 (be 4 (length rec)) l₂
       → l₄ ≡ written 20 rec l₃ → l₅ ≡ written (20 + length rec) (joined (items_of (digest_in mode) (node_in bs) n index)) l₄
-      → wrote (record { number = 0; length = m }) l₅ ≡ write_done (our_letter (digest_in mode) size index rec (node_in bs)) out
+      → wrote (Ok m) l₅ ≡ write_done (our_letter (digest_in mode) size index rec (node_in bs)) out
   unfolding our_letter
   letter_done out {l₅ = l₅} m e fits e₁ e₂ e₃ e₄ e₅ =
       let b : length (joined (items_of (digest_in mode) (node_in bs) n index)) ≡ 32 * item_count n index =

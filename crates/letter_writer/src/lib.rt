@@ -1,20 +1,12 @@
 // The letter of a record, written from a log's nodes.
 #![tactic(auto)]
 
-ghost use Rattle.std.specs.Prelude.{◌≡◌, []};
+ghost use Rattle.std.specs.Prelude.{◌≡◌};
 ghost use Rattle.digest.specs.Digest.{digest_in};
-ghost use Rattle.wire.specs.Writers.{wrote, write_refused};
+ghost use Rattle.wire.specs.Writers.{wrote};
 ghost use Rattle.letter_writer.specs.Outcome.{write_outcome};
 
-use shape::Counted;
-use wire::Written;
-
-// A refusal: its number, and length 0.
-fn write_refused(number: u32) -> Written
-    ensures { wrote result [] ≡ write_refused [] number }
-{
-    Written { number, length: 0 }
-}
+use refusals::Refused;
 
 // Writes the letter for an index of a log of this size, with the record at that index. Refuses by 1, 5, 3, 4, 13, 6.
 pub fn write_letter(
@@ -24,37 +16,34 @@ pub fn write_letter(
     rec: &[u8],
     nodes: &[u8],
     out: &mut [u8],
-) -> Written
+) -> Result<usize, Refused>
     ensures { wrote result out.new
         ≡ write_outcome (digest_in mode.now) size index rec.now nodes.now out.old }
 {
-    let c = shape::leaf_count(size);
-    let Counted::Leaves(n) = c else {
-        return write_refused(1);
-    };
+    let n = shape::leaf_count(size)?;
     if n <= index {
-        return write_refused(5);
+        return Err(Refused::NoSuchLeaf);
     }
     let stated = rec.len();
     if wire::LONGEST_RECORD < stated {
-        return write_refused(3);
+        return Err(Refused::RecordTooLong);
     }
     if (nodes.len() as u64) < 32 * size {
-        return write_refused(4);
+        return Err(Refused::NodesTooShort);
     }
     let own = digest::digest_of(mode, rec);
-    if letter::leaf::foreign(nodes, index, own) != 0 {
-        return write_refused(13);
+    if letter::leaf::foreign(nodes, index, own) {
+        return Err(Refused::OtherRecord);
     }
     let items = letter::count::item_count(n, index) as usize;
     let length = letter::HEAD + stated + 32 * items;
     if out.len() < length {
-        return write_refused(6);
+        return Err(Refused::OutputTooShort);
     }
     wire::write8(out, 0, size);
     wire::write8(out, 8, index);
     wire::write4(out, 16, stated as u32);
     wire::write_run(out, letter::HEAD, rec);
     letter_items::write_items(mode, out, letter::HEAD + stated, nodes, n, index);
-    Written { number: 0, length }
+    Ok(length)
 }

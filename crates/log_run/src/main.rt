@@ -4,7 +4,6 @@
 mod given;
 mod lines;
 
-use evidence_log::Appended;
 use given::{append_lent, buffer_of, edge_of, root_lent};
 use lines::{show_appended, show_digest, show_rooted};
 use runs::given::record_of;
@@ -28,14 +27,6 @@ fn show_state(rt: &impl Print, size: u64, nodes: &[u8; 2624]) {
     show_rooted(rt, b"  root ", evidence_log::root(&mode, size, nodes));
 }
 
-// The lines of an append of the first n bytes of record i.
-fn show_append(rt: &impl Print, i: usize, n: usize, a: Appended, nodes: &[u8; 2624]) {
-    say_number(rt, b"append ", i as u64);
-    say_number(rt, b", record of length ", n as u64);
-    show_appended(rt, b":", a);
-    show_state(rt, a.size, nodes);
-}
-
 // Record i, its first n bytes, appended, and the lines of that; the new size.
 fn append_next(
     rt: &impl Print,
@@ -46,20 +37,22 @@ fn append_next(
     shown: bool,
 ) -> u64 {
     let rec = record_of(i);
-    let a = append_lent(size, &rec, n, nodes, 2624);
+    let answer = append_lent(size, &rec, n, nodes, 2624);
+    let next = answer.map_or(size, |a| a.size);
     if shown {
-        show_append(rt, i, n, a, nodes);
+        say_number(rt, b"append ", i as u64);
+        say_number(rt, b", record of length ", n as u64);
+        show_appended(rt, b":", size, answer);
+        show_state(rt, next, nodes);
     }
-    a.size
+    next
 }
 
 // Forty records; the size at the end.
 fn run(rt: &impl Print, nodes: &mut [u8; 2624], shown: bool) -> u64 {
-    let lengths = LENGTHS;
-    let mut size: u64 = 0;
+    let mut size = 0;
     for i in 0..40 {
-        let next = append_next(rt, size, i, lengths[i % 11], nodes, shown);
-        size = next;
+        size = append_next(rt, size, i, LENGTHS[i % 11], nodes, shown);
     }
     size
 }
@@ -83,8 +76,8 @@ fn try_append(rt: &impl Print, size: u64, n: usize, lent: usize, nodes: &mut [u8
     show_given(rt, size, n, lent);
     show_whole(rt, b"  before ", nodes);
     let rec = record_of(40);
-    let a = append_lent(size, &rec, n, nodes, lent);
-    show_appended(rt, b"  append", a);
+    let answer = append_lent(size, &rec, n, nodes, lent);
+    show_appended(rt, b"  append", size, answer);
     show_whole(rt, b"  after ", nodes);
 }
 

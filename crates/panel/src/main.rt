@@ -2,37 +2,27 @@
 // decimal and a newline to standard output. It reads at most 17,469 bytes, since a longer letter gets the same number.
 #![tactic(auto)]
 
-ghost use Rattle.std.specs.Prelude.{◌≡◌, List, ℕ, length, take};
-ghost use Rattle.io.specs.Counts.{IsPrefixLen};
-ghost use Rattle.io.specs.Digits.{last_digits, IsDigitCount};
 ghost use Rattle.digest.specs.Digest.{digest_of};
 ghost use Rattle.letter_checker.specs.Outcome.{judged};
+ghost use Rattle.letter_checker.proofs.Panel.{front_judged};
 
-use std::io::Result;
+use panels::Judge;
+use refusals::Refused;
 
-// The verdict number in decimal, by the fewest digits, at the start of out; how many they are.
-fn verdict(input: &[u8], out: &mut [u8; 20]) -> usize
-    ensures within { IsPrefixLen result out.new }
-    ensures count { (whole : List ℕ) → input.now ≡ take 17469 whole → IsDigitCount 10 1 (judged digest_of whole) result }
-    ensures digits { (whole : List ℕ) → input.now ≡ take 17469 whole
-        → take result out.new ≡ last_digits 10 result (judged digest_of whole) }
-{
-    let mode = digest::plain();
-    io::decimal(letter_checker::judge(&mode, input) as u64, out)
+// A letter of a plain log: the longest one, with size and root before it, and a byte more.
+struct Letter;
+
+impl Judge<17469> for Letter {
+    ghost judged = { judged digest_of };
+
+    fn judge(input: &[u8]) -> Result<(), Refused> {
+        letter_checker::judge(&digest::plain(), input)
+    }
+
+    ghost front = { front_judged digest_of };
 }
 
-// The one buffer: the longest letter, with size and root before it, and a byte more.
-fn buffer() -> [u8; 17469]
-    ensures { 17469 ≡ length result }
-{
-    [0; 17469]
-}
-
-fn main(rt: HostRuntime) -> Result<()> {
-    let mut input = buffer();
-    let n = streams::read_full(&mut rt.stdin(), &mut input);
-    let mut text = [0u8; 20];
-    let k = verdict(&input[..n], &mut text);
-    rt.write_all(&text[..k])?;
-    rt.write_all(b"\n")
+fn main(rt: HostRuntime) -> std::io::Result<()> {
+    let mut input = [0u8; 17469];
+    panels::answer::<Letter, 17469>(&rt, &mut rt.stdin(), &mut input)
 }

@@ -1,31 +1,33 @@
--- The first of two differences, and what a fork adds to those below.
-use mathlib.Core.Logic.{◌≢◌}
-use mathlib.Core.Path.{◌≡◌, refl}
+-- What is broken or differs at a fork or below it.
+use mathlib.Core.Path.{◌≡◌, refl, sym}
 use mathlib.Core.List.{List}
-use Prim.Native.Nat.{ℕ, zero, suc}
-use Rattle.wire.specs.Slices.{differ}
+use Prim.Native.Nat.{ℕ}
+use Rattle.std.specs.Prelude.{Bool, true, false, ◌||◌, Option, None, Some}
+use Rattle.std.specs.Option.{option_or}
+use Rattle.inputs.specs.declared.Unequal.{Unequal}
+use Rattle.wire.specs.Slices.{bit, differ}
 use Rattle.wire.proofs.Differences.{differ_same, differ_other}
-use Rattle.shape.specs.Difference.{decided, Diff, agree}
+use Rattle.shape.specs.Difference.{decided, Diff}
 use Rattle.shape.specs.Seen.{either}
 use Rattle.views.specs.Compared.{or_else, apart}
 use Rattle.views.proofs.Compare.{apart_same, apart_other}
-use Rattle.inputs.specs.Inputs.{above}
+use Rattle.inputs.specs.Inputs.{above, told}
 
-pub either_some : (a b : ℕ) → a ≢ 0 → 1 ≡ either a b
-either_some zero b f = absurd (f refl)
-either_some (suc a) b f = refl
+-- broken here or below
+pub either_any : (a b c : Bool) {k : ℕ} → bit a ≡ k → bit ((a || b) || c) ≡ either k (either (bit b) (bit c))
+either_any true b c e = rw (sym e) refl
+either_any false true c e = rw (sym e) refl
+either_any false false true e = rw (sym e) refl
+either_any false false false e = rw (sym e) refl
 
-module _ (a b : List ℕ) (d : Diff) where
-  pub or_none : (k : ℕ) → k ≡ 0 → d ≡ or_else (above k a b agree) d
-  or_none k e = rw e
+-- the first of two differences, as they are told
+pub told_or : (a b : Option Unequal) → told (option_or a b) ≡ or_else (told a) (told b)
+told_or None b = refl
+told_or (Some u) b = refl
 
-  pub or_some : (k : ℕ) → k ≢ 0 → above k a b agree ≡ or_else (above k a b agree) d
-  or_some zero f = absurd (f refl)
-  or_some (suc k) f = refl
-
-  -- two inputs that differ come before what is below
-  pub above_or : above (differ a b) a b d ≡ or_else (apart a b) d
-  above_or = elim (decided a b) [
-    | yes e ↦ rw (differ_same a b e, apart_same a b e)
-    | no e ↦ rw (differ_other a b e, apart_other a b e)
-  ]
+-- two inputs that differ come before what is below
+pub above_or : (a b : List ℕ) (d : Diff) → above (differ a b) a b d ≡ or_else (apart a b) d
+above_or a b d = elim (decided a b) [
+  | yes e ↦ rw (differ_same a b e, apart_same a b e)
+  | no e ↦ rw (differ_other a b e, apart_other a b e)
+]

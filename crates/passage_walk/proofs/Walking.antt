@@ -16,6 +16,7 @@ use Rattle.views.proofs.Walks.{taken_given, found_given, taken_asked, found_aske
 use Rattle.nodes.specs.Nodes.{node_in}
 use Rattle.nodes.proofs.From.{from_any}
 use Rattle.inputs.specs.Inputs.{told}
+use Rattle.wire.specs.Slices.{bit}
 use Rattle.passage.proofs.Steps.{countable_low, countable_left, countable_right}
 use Rattle.passage_walk.specs.declared.Part.{Part}
 use Rattle.passage_walk.specs.declared.Place.{Place}
@@ -153,5 +154,5 @@ module _ (digest : List ℕ → List ℕ) (bs leaves items : List ℕ) (h n : �
         w.log.bytes c.log.within c.log.above in
         let g = found_fork digest (node_in bs) (node_in leaves) (node_in items) h half t n at.node o.node q m refl v v' at.asked at.used
         l.asked l.used r.asked r.used l.log.bytes l.letter.bytes r.log.bytes r.letter.bytes a.taken b.taken
-        w.log.bytes f.ours l.broken r.broken (told l.difference) (told r.difference) a.found b.found in
+        w.log.bytes f.ours (bit l.broken) (bit r.broken) (told l.difference) (told r.difference) a.found b.found in
         record { taken = rw (e, c.asked, c.used, c.letter) f; found = rw (e, c.broken, c.first) g }

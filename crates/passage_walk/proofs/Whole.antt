@@ -15,6 +15,7 @@ use Rattle.views.specs.Shows.{seen_by, broken_by}
 use Rattle.views.proofs.Passages.{passage_any}
 use Rattle.nodes.specs.Nodes.{node_in}
 use Rattle.inputs.specs.Inputs.{told}
+use Rattle.wire.specs.Slices.{bit}
 use Rattle.passage.proofs.Digests.{within_yes, within_no, countable}
 use Rattle.passage_walk.specs.declared.Part.{Part}
 use Rattle.passage_walk.specs.Outcome.{walk_none, walk_done, walk_outcome}
@@ -38,7 +39,7 @@ module _ (n : ℕ) (is : List ℕ) where
     -- what a walk from the height of n leaves finds
     pub whole : (digest : List ℕ → List ℕ) (bs leaves items : List ℕ) {w : Part}
         → Walked digest bs leaves items h n is (record { leaf = 0; node = 0; asked = 0; used = 0 }) w
-        → record { log = w.log.bytes; letter = w.letter.bytes; broken = w.broken; first = told w.difference }
+        → record { log = w.log.bytes; letter = w.letter.bytes; broken = bit w.broken; first = told w.difference }
         ≡ walk_done digest (node_in bs) n is leaves items
     whole digest bs leaves items {w} o =
         let v : passage_in h n 0 is ≡ passage n is = passage_any h n is (rw e (height_holds n)) in

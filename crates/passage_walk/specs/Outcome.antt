@@ -1,6 +1,6 @@
 -- What a walk for the indexes of a passage answers, for every input and any digest function and nodes.
 use Rattle.std.specs.Prelude.{true, false, List, ℕ}
-use Rattle.wire.specs.Slices.{zeros}
+use Rattle.wire.specs.Slices.{bit, zeros}
 use Rattle.shape.specs.Tree.{Tree, root, inputs}
 use Rattle.shape.specs.Difference.{Diff, agree, difference}
 use Rattle.views.specs.View.{plant_at}
@@ -21,7 +21,7 @@ pub record WalkOutcome : Type 0 where
 
 -- the outcome by the answer
 abbrev pub walked_off : Trail → WalkOutcome
-walked_off w = record { log = w.log.bytes; letter = w.letter.bytes; broken = w.broken; first = told w.difference }
+walked_off w = record { log = w.log.bytes; letter = w.letter.bytes; broken = bit w.broken; first = told w.difference }
 
 -- numbers that no letter has digests for
 abbrev pub walk_none : WalkOutcome

@@ -1,7 +1,7 @@
 -- What the walk's own steps are called, which no public contract cites: a fork above two parts, what a walk asks and finds. Over any nodes and
 -- digests.
 use Rattle.std.specs.Prelude.{◌≡◌, List, ◌++◌, ℕ, ◌+◌, ◌-◌, ◌*◌, ◌^◌, ◌≤◌}
-use Rattle.wire.specs.Slices.{differ}
+use Rattle.wire.specs.Slices.{bit, differ}
 use Rattle.shape.specs.Seen.{either}
 use Rattle.shape.specs.Difference.{agree}
 use Rattle.views.specs.Compared.{or_else, apart}
@@ -35,7 +35,8 @@ pub record Joined (digest : List ℕ → List ℕ) (bs : List ℕ) (half rest mi
   pub used : w.used ≡ left.used + right.used
   pub log : Crowned bs half rest mid (digest (left.log.bytes ++ right.log.bytes)) w.log.bytes
   pub letter : w.letter.bytes ≡ digest (left.letter.bytes ++ right.letter.bytes)
-  pub broken : w.broken ≡ either (differ w.log.bytes (digest (left.log.bytes ++ right.log.bytes))) (either left.broken right.broken)
+  pub broken : bit w.broken
+      ≡ either (differ w.log.bytes (digest (left.log.bytes ++ right.log.bytes))) (either (bit left.broken) (bit right.broken))
   pub first : told w.difference
       ≡ or_else (apart (left.log.bytes ++ right.log.bytes) (left.letter.bytes ++ right.letter.bytes))
       (or_else (told left.difference) (told right.difference))
@@ -61,7 +62,7 @@ pub record Given (digest : List ℕ → List ℕ) (bs items : List ℕ) (n : ℕ
   pub used : w.used ≡ 1
   pub log : w.log.bytes ≡ fold_from digest bs n at.node
   pub letter : w.letter.bytes ≡ node_in items at.used
-  pub broken : w.broken ≡ 0
+  pub broken : bit w.broken ≡ 0
   pub first : told w.difference ≡ agree
 
 -- a leaf that is asked for
@@ -70,7 +71,7 @@ pub record Asked (bs leaves : List ℕ) (at : Place) (w : Part) : Type 0 where
   pub used : w.used ≡ 0
   pub log : w.log.bytes ≡ node_in bs at.node
   pub letter : w.letter.bytes ≡ node_in leaves at.asked
-  pub broken : w.broken ≡ 0
+  pub broken : bit w.broken ≡ 0
   pub first : told w.difference ≡ agree
 
 -- a walk of n leaves, n at most 2^h: no sum wraps
@@ -87,4 +88,4 @@ pub record Walked (digest : List ℕ → List ℕ) (bs leaves items : List ℕ) 
   pub taken : Taken digest (node_in bs) (node_in leaves) (node_in items) (passage_in h n at.leaf is) n at.node at.asked at.used
       w.asked w.used w.log.bytes w.letter.bytes
   pub found : Found digest (node_in bs) (node_in leaves) (node_in items) (passage_in h n at.leaf is) n at.node at.asked at.used
-      w.broken (told w.difference)
+      (bit w.broken) (told w.difference)

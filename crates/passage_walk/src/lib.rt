@@ -10,7 +10,7 @@ mod join;
 mod walk;
 
 use digest::Digest;
-use inputs::Difference;
+use inputs::Unequal;
 
 // What a walk finds: the digest on top by the log and by the letter, whether a node that it looks into is broken, and the first difference of the
 // inputs.
@@ -18,8 +18,8 @@ use inputs::Difference;
 pub struct Trail {
     pub log: Digest,
     pub letter: Digest,
-    pub broken: u8,
-    pub difference: Difference,
+    pub broken: bool,
+    pub difference: Option<Unequal>,
 }
 
 // The same of a part of the tree, and how many leaf digests and given digests of the letter it took.
@@ -29,8 +29,8 @@ struct Part {
     letter: Digest,
     asked: u64,
     used: u64,
-    broken: u8,
-    difference: Difference,
+    broken: bool,
+    difference: Option<Unequal>,
 }
 
 // Where a part begins: its first leaf, the position of its first node, and the numbers of the first leaf digest and the first given digest that the
@@ -50,8 +50,8 @@ fn nothing() -> Trail
     Trail {
         log: Digest { bytes: [0u8; 32] },
         letter: Digest { bytes: [0u8; 32] },
-        broken: 0,
-        difference: inputs::agreement(),
+        broken: false,
+        difference: None,
     }
 }
 
@@ -78,13 +78,10 @@ pub fn walk_of(
         used: 0,
     };
     let w = walk::walk(mode, nodes, leaves, items, shape::height(n), n, is, at);
-    let log = w.log;
-    let letter = w.letter;
-    let difference = w.difference;
     Trail {
-        log,
-        letter,
+        log: w.log,
+        letter: w.letter,
         broken: w.broken,
-        difference,
+        difference: w.difference,
     }
 }

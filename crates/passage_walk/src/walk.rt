@@ -14,8 +14,8 @@ fn given(mode: &[u8; 36], nodes: &[u8], items: &[u8], n: u64, at: Place) -> Part
         letter: nodes::node_at(items, at.used),
         asked: 0,
         used: 1,
-        broken: 0,
-        difference: inputs::agreement(),
+        broken: false,
+        difference: None,
     }
 }
 
@@ -28,8 +28,8 @@ fn asked(nodes: &[u8], leaves: &[u8], at: Place) -> Part
         letter: nodes::node_at(leaves, at.asked),
         asked: 1,
         used: 0,
-        broken: 0,
-        difference: inputs::agreement(),
+        broken: false,
+        difference: None,
     }
 }
 
@@ -61,7 +61,7 @@ pub(crate) fn walk(
     ensures { Walked (digest_in mode.now) nodes.now leaves.now items.now h n is.now at
         result }
 {
-    if is.len() == 0 {
+    if is.is_empty() {
         return given(mode, nodes, items, n, at);
     }
     if h == 0 {

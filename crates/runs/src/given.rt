@@ -10,8 +10,7 @@ const LENGTHS: [usize; 5] = [0, 1, 31, 200, 16384];
 pub fn length_of(k: usize) -> usize
     ensures { result ≡ length_of k }
 {
-    let lengths = LENGTHS;
-    lengths[k % 5]
+    LENGTHS[k % 5]
 }
 
 // Fills out with record i: byte j is (7i + j) mod 251.
@@ -19,20 +18,25 @@ pub fn fill(i: usize, out: &mut [u8])
     ensures { out.new ≡ record_of i (length out.old) }
 {
     let first = 7 * (i % 251);
-    let mut j = 0;
-    while j < out.len() {
-        out[j] = ((first + j % 251) % 251) as u8;
-        j += 1;
+    for (j, x) in out.iter_mut().enumerate() {
+        *x = ((first + j % 251) % 251) as u8;
     }
+}
+
+// Record i, of as many bytes as are asked for.
+pub fn filled<const N: usize>(i: usize) -> [u8; N]
+    ensures { result ≡ record_of i N }
+{
+    let mut out = [0u8; N];
+    fill(i, &mut out);
+    out
 }
 
 // Record i, with one byte more than a record can have.
 pub fn record_of(i: usize) -> [u8; 16385]
     ensures { result ≡ record_of i 16385 }
 {
-    let mut out = [0u8; 16385];
-    fill(i, &mut out);
-    out
+    filled(i)
 }
 
 // A letter made to state another size, index and record length. What is written first over too many bytes is written over again.
@@ -48,8 +52,5 @@ pub fn restate(letter: &mut [u8], named: u64, index: u64, stated: u64)
 pub fn front<'a>(bytes: &'a [u8], n: usize) -> &'a [u8]
     ensures { lent result ≡ front_of n bytes.entry }
 {
-    if n <= bytes.len() {
-        return &bytes[..n];
-    }
-    bytes
+    &bytes[..n.min(bytes.len())]
 }

@@ -28,12 +28,10 @@ pub fn say_numbers(rt: &impl Print, label: &[u8], numbers: &[u64]) -> usize
     ensures { result ≡ length numbers.now }
 {
     say(rt, label);
-    let mut i = 0;
-    while i < numbers.len() {
-        say_number(rt, b" ", numbers[i]);
-        i += 1;
+    for &n in numbers {
+        say_number(rt, b" ", n);
     }
-    i
+    numbers.len()
 }
 
 pub fn say_hex(rt: &impl Print, label: &[u8], bytes: [u8; 32]) -> usize
@@ -46,7 +44,5 @@ pub fn say_digest(rt: &impl Print, label: &[u8], bytes: &[u8]) -> usize
     ensures { result ≡ length label.now + 64 }
 {
     let mode = digest::plain();
-    let d = digest::digest_of(&mode, bytes);
-    let b = d.bytes;
-    say_hex(rt, label, b)
+    say_hex(rt, label, digest::digest_of(&mode, bytes).bytes)
 }

@@ -1,12 +1,14 @@
 -- What reading a stored node returns, and the part of the bytes that is its record.
-use Rattle.std.specs.Prelude.{true, false, List, [], ◌∷◌, ◌++◌, ℕ, ◌+◌, eqb, length}
+use Rattle.std.specs.Prelude.{true, false, List, [], ◌∷◌, ◌++◌, ℕ, ◌+◌, Result, eqb, length}
 use Rattle.std.specs.Borrow.{Bor}
+use Rattle.refusals.specs.declared.Refused.{Refused}
+use Rattle.refusals.specs.Numbers.{outcome_by}
 use Rattle.wire.specs.Limits.{longest_record}
 use Rattle.wire.specs.Slices.{zeros}
 use Rattle.wire.specs.Lent.{Part, part_of}
 use Rattle.order.specs.Order.{Refusal, ◌if◌, ◌under◌, ◌above◌, ◌is_not◌, verdict}
 use Rattle.stored.specs.declared.Node.{Node}
-use Rattle.stored.specs.declared.Node.TheVariants.{Inner, Leaf, NotANode, RecordTooLong, OtherDigest}
+use Rattle.stored.specs.declared.Node.TheVariants.{Inner, Leaf}
 use Rattle.stored.specs.declared.Reading.{Reading}
 use Rattle.stored.specs.Nodes.{flag_in, named_in, stated_in, lies}
 
@@ -34,17 +36,14 @@ leaf_read n digest = record { number = 0; kind = leaf; digest = digest; start = 
 abbrev pub read_refused : List ℕ → ℕ → ReadOutcome
 read_refused digest n = record { number = n; kind = none; digest = digest; start = 0; length = 0 }
 
--- the number and values for each case of the answer
+-- the values of a node that was read
 abbrev pub values_of : Node → List ℕ → ReadOutcome
 values_of Inner digest = inner_read digest
 values_of (Leaf n) digest = leaf_read n digest
-values_of NotANode digest = read_refused digest 11
-values_of RecordTooLong digest = read_refused digest 3
-values_of OtherDigest digest = read_refused digest 18
 
--- the outcome by the answer
-abbrev pub read_off : Reading → ReadOutcome
-read_off answer = values_of answer.node answer.digest
+-- the outcome by the answer: a refusal has the digest all zero
+abbrev pub read_off : Result Reading Refused → ReadOutcome
+read_off answer = outcome_by (read_refused (zeros 32)) (λ r. values_of r.node r.digest) answer
 
 -- refusals that only a node with this flag meets
 abbrev pub for_flag : ℕ → List ℕ → List Refusal → List Refusal

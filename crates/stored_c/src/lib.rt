@@ -6,6 +6,7 @@ ghost use Rattle.std.specs.Prelude.{◌≡◌};
 ghost use Rattle.kept.specs.Kept.{write_left};
 ghost use Rattle.stored_c.specs.Nodes.{store_leaf_call, store_inner_call, read_left, read_call};
 
+use refusals::Refused;
 use stored::Node;
 
 // The stored leaf of a record, into the first bytes of out.
@@ -19,12 +20,13 @@ pub extern "C" fn keeper_store_leaf(
     ensures { write_left result length.new out.new
         ≡ store_leaf_call mode.now rec.now out.old length.old }
 {
-    let w = stored_writer::write_leaf(mode, rec, out);
-    if w.number != 0 {
-        return w.number;
+    match stored_writer::write_leaf(mode, rec, out) {
+        Ok(n) => {
+            *length = n;
+            0
+        }
+        Err(why) => u32::from(why),
     }
-    *length = w.length;
-    0
 }
 
 // The stored inner node of a digest, into the first bytes of out.
@@ -34,14 +36,15 @@ pub extern "C" fn keeper_store_inner(digest: &[u8], out: &mut [u8], length: &mut
         ≡ store_inner_call digest.now out.old length.old }
 {
     if digest.len() != 32 {
-        return 12;
+        return u32::from(Refused::RootLength);
     }
-    let w = stored_writer::write_inner(wire::read_digest(digest, 0), out);
-    if w.number != 0 {
-        return w.number;
+    match stored_writer::write_inner(wire::read_digest(digest, 0), out) {
+        Ok(n) => {
+            *length = n;
+            0
+        }
+        Err(why) => u32::from(why),
     }
-    *length = w.length;
-    0
 }
 
 // A stored node read: its kind, its digest into the first 32 bytes of out, and where in the bytes its record lies.
@@ -58,25 +61,26 @@ pub extern "C" fn keeper_read_node(
         ≡ read_call mode.now bytes.now kind.old out.old record_at.old
         record_len.old }
 {
-    let reading = stored::read_node(mode, bytes);
-    let number = stored::number_of(reading);
-    if number != 0 {
-        return number;
-    }
-    if out.len() < 32 {
-        return 6;
-    }
-    let digest = reading.digest;
-    wire::write_digest(out, 0, digest);
-    let node = reading.node;
-    let Node::Leaf(length) = node else {
-        *kind = 0;
-        *record_at = 0;
-        *record_len = 0;
-        return 0;
+    let reading = match stored::read_node(mode, bytes) {
+        Ok(reading) => reading,
+        Err(why) => return u32::from(why),
     };
-    *kind = 1;
-    *record_at = stored::RECORD_AT;
-    *record_len = length;
-    0
+    if out.len() < 32 {
+        return u32::from(Refused::OutputTooShort);
+    }
+    wire::write_digest(out, 0, reading.digest);
+    match reading.node {
+        Node::Inner => {
+            *kind = 0;
+            *record_at = 0;
+            *record_len = 0;
+            0
+        }
+        Node::Leaf(n) => {
+            *kind = 1;
+            *record_at = stored::RECORD_AT;
+            *record_len = n;
+            0
+        }
+    }
 }

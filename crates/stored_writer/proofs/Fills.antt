@@ -4,6 +4,7 @@ use mathlib.Core.List.{List, [], ◌∷◌, ◌++◌}
 use Prim.Native.Nat.{ℕ, ◌+◌, ◌≤◌}
 use native.Mathlib.Omega.{arith}
 use lib.ListN.{length}
+use Rattle.std.specs.Prelude.{Ok}
 use Rattle.wire.specs.Numbers.{be}
 use Rattle.wire.specs.Slices.{splice, written}
 use Rattle.wire.specs.Writers.{wrote, write_done}
@@ -21,7 +22,7 @@ head_filled flag digest out {l₁} h e₁ e₂ =
 
 pub inner_filled : (digest out : List ℕ) {l₁ l₂ : List ℕ} → length digest ≡ 32 → 33 ≤ length out
     → l₁ ≡ written 0 (0 ∷ []) out → l₂ ≡ written 1 digest l₁
-    → wrote (record { number = 0; length = 33 }) l₂ ≡ write_done (inner_bytes digest) out
+    → wrote (Ok 33) l₂ ≡ write_done (inner_bytes digest) out
 unfolding inner_bytes
 inner_filled digest out {l₁} {l₂} h k e₁ e₂ =
     write_done_lem (0 ∷ digest) out l₂ 33 (omega arith) (head_filled 0 digest out (omega arith) e₁ e₂)
@@ -29,7 +30,7 @@ inner_filled digest out {l₁} {l₂} h k e₁ e₂ =
 pub leaf_filled : (digest : List ℕ → List ℕ) (rec out : List ℕ) {d l₁ l₂ l₃ l₄ : List ℕ} → length (digest rec) ≡ 32
     → 37 + length rec ≤ length out → d ≡ digest rec
     → l₁ ≡ written 0 (1 ∷ []) out → l₂ ≡ written 1 d l₁ → l₃ ≡ written 33 (be 4 (length rec)) l₂ → l₄ ≡ written 37 rec l₃
-    → wrote (record { number = 0; length = 37 + length rec }) l₄ ≡ write_done (leaf_bytes digest rec) out
+    → wrote (Ok (37 + length rec)) l₄ ≡ write_done (leaf_bytes digest rec) out
 unfolding leaf_bytes
 leaf_filled digest rec out {d} {l₁} {l₂} {l₃} {l₄} h k e e₁ e₂ e₃ e₄ =
     let x : List ℕ = digest rec in

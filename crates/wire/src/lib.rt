@@ -16,30 +16,34 @@ pub fn read_byte(s: &[u8], at: usize) -> u8
     s.get(at).copied().unwrap_or(0)
 }
 
-// Reads the number in the two bytes from a place on.
+// Reads the N bytes from a place on.
+fn read<const N: usize>(s: &[u8], at: usize) -> [u8; N]
+    ensures { result ≡ part at N s.now }
+{
+    let mut b = [0u8; N];
+    read_run(s, at, &mut b);
+    b
+}
+
+// Reads the number in the two bytes from a place on. A width stands in the name: the number of more than eight bytes fits no type.
 pub fn read2(s: &[u8], at: usize) -> u32
     ensures { result ≡ number (part at 2 s.now) }
 {
-    let mut b = [0u8; 2];
-    read_run(s, at, &mut b);
-    value_of(&b)
+    value_of(&read::<2>(s, at))
 }
 
 // Reads the number in the four bytes from a place on.
 pub fn read4(s: &[u8], at: usize) -> u32
     ensures { result ≡ number (part at 4 s.now) }
 {
-    let mut b = [0u8; 4];
-    read_run(s, at, &mut b);
-    value_of(&b)
+    value_of(&read::<4>(s, at))
 }
 
 // Reads the number in the eight bytes from a place on. It is put together from two halves, which the compiler makes one load.
 pub fn read8(s: &[u8], at: usize) -> u64
     ensures { result ≡ number (part at 8 s.now) }
 {
-    let mut b = [0u8; 8];
-    read_run(s, at, &mut b);
+    let b = read::<8>(s, at);
     let high = value_of(&b[0..4]);
     let low = value_of(&b[4..8]);
     high as u64 * 4294967296 + low as u64
@@ -49,9 +53,7 @@ pub fn read8(s: &[u8], at: usize) -> u64
 pub fn read_digest(s: &[u8], at: usize) -> [u8; 32]
     ensures { result ≡ part at 32 s.now }
 {
-    let mut b = [0u8; 32];
-    read_run(s, at, &mut b);
-    b
+    read::<32>(s, at)
 }
 
 // Reads the bytes from a place on, over the whole of d.
@@ -108,31 +110,25 @@ pub fn write_byte(d: &mut [u8], at: usize, b: u8)
     }
 }
 
-// Writes a number over the two bytes from a place on.
+// Writes a number over the two bytes from a place on. A width stands in the name: a call for any width would ask that so many bytes fit in memory.
 pub fn write2(d: &mut [u8], at: usize, n: u32)
     ensures { d.new ≡ written at (be 2 n) d.old }
 {
-    let mut b = [0u8; 2];
-    spell(&mut b, n as u64);
-    write_run(d, at, &b);
+    write_run(d, at, &spelled::<2>(n as u64));
 }
 
 // Writes a number over the four bytes from a place on.
 pub fn write4(d: &mut [u8], at: usize, n: u32)
     ensures { d.new ≡ written at (be 4 n) d.old }
 {
-    let mut b = [0u8; 4];
-    spell(&mut b, n as u64);
-    write_run(d, at, &b);
+    write_run(d, at, &spelled::<4>(n as u64));
 }
 
 // Writes a number over the eight bytes from a place on.
 pub fn write8(d: &mut [u8], at: usize, n: u64)
     ensures { d.new ≡ written at (be 8 n) d.old }
 {
-    let mut b = [0u8; 8];
-    spell(&mut b, n);
-    write_run(d, at, &b);
+    write_run(d, at, &spelled::<8>(n));
 }
 
 // Writes a digest over the 32 bytes from a place on.
@@ -154,6 +150,15 @@ pub fn write_run(d: &mut [u8], at: usize, s: &[u8])
         return;
     }
     d[at..at + n].copy_from_slice(s);
+}
+
+// The low bytes of a number.
+fn spelled<const N: usize>(n: u64) -> [u8; N]
+    ensures { result ≡ be N n }
+{
+    let mut b = [0u8; N];
+    spell(&mut b, n);
+    b
 }
 
 // The low bytes of a number, over the whole of d.

@@ -1,11 +1,7 @@
--- What each turn of the loop of `foresee` keeps, and what falls.
-use Prim.Native.Nat.{◌-◌}
-use lib.ListN.{length}
+-- What each turn of the loop of `foresee` keeps.
+use Rattle.refusals.specs.Numbers.{number_in}
 use Rattle.batch_foresight.proofs.Foreseen.{Foresees}
 use Rattle.batch_foresight.proofs.foresee.Given as goal
 
 abbrev pub invariant-loop-i : goal.invariant-loop-i
-invariant-loop-i l = Foresees l.bytes l.room l.base l.lengths l.left l.number l.i
-
-abbrev pub decreases-loop-i : goal.decreases-loop-i
-decreases-loop-i l = length l.lengths - l.i
+invariant-loop-i l = Foresees l.bytes l.room l.base l.lengths l.left (number_in l.met) l.i

@@ -1,38 +1,13 @@
 -- The loop takes the whole blocks before the last one, and the last block is padded: `Chain` has the chaining words at each block.
-use mathlib.Core.Path.{ap, ◌∙◌}
-use mathlib.Core.List.{List}
-use Prim.Native.Nat.{ℕ, ◌+◌, ◌-◌}
-use native.Mathlib.Nat.{add-sub_cancel_left}
-use native.Mathlib.Omega.{arith}
-use lib.ListN.{length, take, drop, length-drop}
-use lib.Seq.{take_all}
-use Rattle.compression.specs.Compression.{compressed}
-use Rattle.words.specs.Words.{words_of}
+use Rattle.std.proofs.Common.{arith}
 use Rattle.chunks.proofs.Chain.{chains_none, chains_more, chains_all}
 use Rattle.chunks.proofs.chunk.Goals as goal
 
-pub loop-at-init : goal.loop-at-init
-loop-at-init c = chains_none _ _ 0 _ _
+pub loop-i-init : goal.loop-i-init
+loop-i-init c = chains_none _ _ _ _
 
-pub loop-at-preserved : goal.loop-at-preserved
-loop-at-preserved c =
-    let k = c.args in
-    let at-loop = c.loop-at in
-    chains_more _ _ 0 _ _ c.loop-at-test.true
-    (c.compress-next.ensures
-    ∙ ap (λ (m : List ℕ). compressed at-loop.cv m k.n 64 (k.flag + at-loop.start))
-    (c.load.ensures
-    ∙ ap (λ (j : ℕ). words_of 16 (take j (drop at-loop.at k.bytes.now))) (add-sub_cancel_left at-loop.at 64)))
-    at-loop.invariant
+pub loop-i-preserved : goal.loop-i-preserved
+loop-i-preserved c = chains_more _ _ _ _ c.compress-next.ensures c.load.ensures c.loop-i.invariant
 
 pub returns : goal.returns
-returns c =
-    let k = c.args in
-    let at-loop = c.loop-at in
-    let rest = drop at-loop.at k.bytes.now in
-    chains_all k.key k.flag k.root k.n k.bytes.now c.loop-at-test.false
-    (c.compress.ensures
-    ∙ ap (λ (m : List ℕ). compressed at-loop.cv m k.n (length k.bytes.now - at-loop.at) (k.flag + at-loop.start + 2 + k.root))
-    (c.load-2.ensures
-    ∙ ap (words_of 16) (take_all (length k.bytes.now - at-loop.at) rest (omega (arith, length-drop at-loop.at k.bytes.now)))))
-    at-loop.invariant
+returns c = chains_all _ _ _ _ c.args.root _ (omega arith) (omega arith) c.compress.ensures c.load-2.ensures c.loop-i.invariant

@@ -1,11 +1,6 @@
--- What each turn of the loop of `chunk` keeps, and what falls.
-use Prim.Native.Nat.{◌-◌}
-use lib.ListN.{length}
+-- What each turn of the loop of `chunk` keeps.
 use Rattle.chunks.proofs.Chain.{Chains}
 use Rattle.chunks.proofs.chunk.Given as goal
 
-abbrev pub invariant-loop-at : goal.invariant-loop-at
-invariant-loop-at l = Chains l.initial.cv l.flag l.n l.bytes l.cv l.start l.at
-
-abbrev pub decreases-loop-at : goal.decreases-loop-at
-decreases-loop-at l = length l.bytes - l.at
+abbrev pub invariant-loop-i : goal.invariant-loop-i
+invariant-loop-i l = Chains l.fn.keying.words l.fn.keying.flag l.n l.bytes l.cv l.start l.i

@@ -39,14 +39,15 @@ pub record Chains4 (key : List ℕ) (flag n : ℕ) (bs cv : List ℕ) (start b :
   pub words : cv ≡ laned (λ k. chained key flag (n + k) (chunk_in bs k) b)
 
 module _ (key : List ℕ) (flag n : ℕ) (bs : List ℕ) (size : length key ≡ 8) where
-  chains4_none : {cv : List ℕ} → cv ≡ laned (λ k. key) → Chains4 key flag n bs cv 1 0
+  pub chains4_none : {cv : List ℕ} → cv ≡ laned (λ k. key) → Chains4 key flag n bs cv 1 0
   unfolding chained start_flag
   chains4_none e = record { within = zero-le; small = omega arith; first = refl; words = e }
 
-  chains4_more : {cv next : List ℕ} {start b : ℕ} → b < 15 → next ≡ compressed4 cv bs (64 * b) n (flag + start)
-      → Chains4 key flag n bs cv start b → Chains4 key flag n bs next 0 (suc b)
+  pub chains4_more : {cv next : List ℕ} {start b : ℕ} → b < 15 → next ≡ compressed4 cv bs (64 * b) n (flag + start)
+      → Chains4 key flag n bs cv start b → Chains4 key flag n bs next 0 (b + 1)
   unfolding chained start_flag
   chains4_more {cv} {next} {start} {b} h e g =
+      subst (Chains4 key flag n bs next 0) (let z : suc b ≡ b + 1 = omega arith in z)
       record {
         within = omega arith;
         small = zero-le;
@@ -74,7 +75,7 @@ module _ (key : List ℕ) (flag n : ℕ) (bs : List ℕ) (size : length key ≡ 
       ap₂ (λ (m : List ℕ) (flags : ℕ). compressed (chained key flag (n + k) x 15) (words_of 16 m) (n + k) 64 flags) w z
       ∙ ap₂ (λ (j len : ℕ). compressed (chained key flag (n + k) x j) (words_of 16 (drop (64 * j) x)) (n + k) len (flag + start_flag j + 2 + 0)) q r
 
-  chains4_all : {cv r : List ℕ} {start b : ℕ} → length bs ≡ 4096 → 15 ≤ b → r ≡ compressed4 cv bs 960 n (flag + start + 2)
+  pub chains4_all : {cv r : List ℕ} {start b : ℕ} → length bs ≡ 4096 → 15 ≤ b → r ≡ compressed4 cv bs 960 n (flag + start + 2)
       → Chains4 key flag n bs cv start b → r ≡ laned (λ k. chunked key flag 0 (n + k) (chunk_in bs k))
   unfolding start_flag
   chains4_all {cv} {r} {start} {b} len done e g =
@@ -85,24 +86,3 @@ module _ (key : List ℕ) (flag n : ℕ) (bs : List ℕ) (size : length key ≡ 
       ∙ compressed4_laned (λ k. chained key flag (n + k) (chunk_in bs k) 15) bs 960 n (flag + 0 + 2)
       (λ k. chained_length key flag (n + k) (chunk_in bs k) 15 size)
       ∙ laned_same _ _ (λ k l. last_block k (length-take-le 1024 (drop (1024 * k) bs) (omega (arith, length-drop (1024 * k) bs))))
-
--- the same words in each lane: lane 0 has them
-module _ (cv key : List ℕ) (flag n : ℕ) (bs : List ℕ) (size : length key ≡ 8) (e : cv ≡ laned (λ k. key)) where
-  spread_key : lane_of cv 0 ≡ key
-  spread_key = ap (λ (x : List ℕ). lane_of x 0) e ∙ lane_laned (λ k. key) 0 (omega arith) size
-
-  pub chunks_none : Chains4 (lane_of cv 0) flag n bs cv 1 0
-  chunks_none = chains4_none (lane_of cv 0) flag n bs (lane_length cv 0) (e ∙ laned_same _ _ (λ k l. sym spread_key))
-
-  pub chunks_all : {now r : List ℕ} {start b : ℕ} → length bs ≡ 4096 → 15 ≤ b → r ≡ compressed4 now bs 960 n (flag + start + 2)
-      → Chains4 (lane_of cv 0) flag n bs now start b → r ≡ laned (λ k. chunked key flag 0 (n + k) (chunk_in bs k))
-  chunks_all len done d g =
-      chains4_all (lane_of cv 0) flag n bs (lane_length cv 0) len done d g
-      ∙ ap (λ (x : List ℕ). laned (λ k. chunked x flag 0 (n + k) (chunk_in bs k))) spread_key
-
-pub chunks_more : (cv : List ℕ) {now next : List ℕ} {flag n : ℕ} {bs : List ℕ} {start b : ℕ} → b < 15
-    → next ≡ compressed4 now bs (64 * b) n (flag + start)
-    → Chains4 (lane_of cv 0) flag n bs now start b → Chains4 (lane_of cv 0) flag n bs next 0 (b + 1)
-chunks_more cv {now} {next} {flag} {n} {bs} {start} {b} h e g =
-    subst (λ (j : ℕ). Chains4 (lane_of cv 0) flag n bs next 0 j) (let z : suc b ≡ b + 1 = omega arith in z)
-    (chains4_more (lane_of cv 0) flag n bs (lane_length cv 0) h e g)

@@ -26,32 +26,15 @@ pub diagonaled_words : (s m : List ℕ) → length s ≡ 16
 unfolding diagonaled mixed_at build build_from
 diagonaled_words s m e = ap (λ (x : List ℕ). diagonaled x m) (build_self 16 s e)
 
--- the four words of a mix, one by one
-four_words : {l : List ℕ} {a b c d : ℕ} → a ∷ b ∷ c ∷ d ∷ [] ≡ l → (a ≡ get_or l 0 0) × (b ≡ get_or l 1 0) × (c ≡ get_or l 2 0) × (d ≡ get_or l 3 0)
-four_words e =
-    (ap (λ (x : List ℕ). get_or x 0 0) e, ap (λ (x : List ℕ). get_or x 1 0) e, ap (λ (x : List ℕ). get_or x 2 0) e, ap (λ (x : List ℕ). get_or x 3 0) e)
+module _ (s m : List ℕ) (size : length s ≡ 16) {p q t u : List ℕ} where
+  pub columned_from : p ≡ at s m 0 4 8 12 0 1 → q ≡ at s m 1 5 9 13 2 3 → t ≡ at s m 2 6 10 14 4 5 → u ≡ at s m 3 7 11 15 6 7
+      → get_or p 0 0 ∷ get_or q 0 0 ∷ get_or t 0 0 ∷ get_or u 0 0 ∷ get_or p 1 0 ∷ get_or q 1 0 ∷ get_or t 1 0 ∷ get_or u 1 0
+      ∷ get_or p 2 0 ∷ get_or q 2 0 ∷ get_or t 2 0 ∷ get_or u 2 0 ∷ get_or p 3 0 ∷ get_or q 3 0 ∷ get_or t 3 0 ∷ get_or u 3 0 ∷ []
+      ≡ columned s m
+  columned_from p' q' t' u' = cc (columned_words s m size)
 
-module _ (s m : List ℕ) (size : length s ≡ 16) {pa pb pc pd qa qb qc qd ta tb tc td ua ub uc ud : ℕ} where
-  pub columned_from : pa ∷ pb ∷ pc ∷ pd ∷ [] ≡ at s m 0 4 8 12 0 1
-      → qa ∷ qb ∷ qc ∷ qd ∷ [] ≡ at s m 1 5 9 13 2 3
-      → ta ∷ tb ∷ tc ∷ td ∷ [] ≡ at s m 2 6 10 14 4 5
-      → ua ∷ ub ∷ uc ∷ ud ∷ [] ≡ at s m 3 7 11 15 6 7
-      → pa ∷ qa ∷ ta ∷ ua ∷ pb ∷ qb ∷ tb ∷ ub ∷ pc ∷ qc ∷ tc ∷ uc ∷ pd ∷ qd ∷ td ∷ ud ∷ [] ≡ columned s m
-  columned_from p q t u =
-      let p' = four_words p in
-      let q' = four_words q in
-      let t' = four_words t in
-      let u' = four_words u in
-      cc (columned_words s m size)
-
-  pub diagonaled_from : pa ∷ pb ∷ pc ∷ pd ∷ [] ≡ at s m 0 5 10 15 8 9
-      → qa ∷ qb ∷ qc ∷ qd ∷ [] ≡ at s m 1 6 11 12 10 11
-      → ta ∷ tb ∷ tc ∷ td ∷ [] ≡ at s m 2 7 8 13 12 13
-      → ua ∷ ub ∷ uc ∷ ud ∷ [] ≡ at s m 3 4 9 14 14 15
-      → pa ∷ qa ∷ ta ∷ ua ∷ ub ∷ pb ∷ qb ∷ tb ∷ tc ∷ uc ∷ pc ∷ qc ∷ qd ∷ td ∷ ud ∷ pd ∷ [] ≡ diagonaled s m
-  diagonaled_from p q t u =
-      let p' = four_words p in
-      let q' = four_words q in
-      let t' = four_words t in
-      let u' = four_words u in
-      cc (diagonaled_words s m size)
+  pub diagonaled_from : p ≡ at s m 0 5 10 15 8 9 → q ≡ at s m 1 6 11 12 10 11 → t ≡ at s m 2 7 8 13 12 13 → u ≡ at s m 3 4 9 14 14 15
+      → get_or p 0 0 ∷ get_or q 0 0 ∷ get_or t 0 0 ∷ get_or u 0 0 ∷ get_or u 1 0 ∷ get_or p 1 0 ∷ get_or q 1 0 ∷ get_or t 1 0
+      ∷ get_or t 2 0 ∷ get_or u 2 0 ∷ get_or p 2 0 ∷ get_or q 2 0 ∷ get_or q 3 0 ∷ get_or t 3 0 ∷ get_or u 3 0 ∷ get_or p 3 0 ∷ []
+      ≡ diagonaled s m
+  diagonaled_from p' q' t' u' = cc (diagonaled_words s m size)

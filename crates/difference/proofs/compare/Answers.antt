@@ -8,9 +8,6 @@ use Rattle.difference.proofs.compare.Goals as goal
 pub returns : goal.returns
 unfolding compare_outcome
 returns c =
-    let settling = c in
-    let compared = settling in
-    let a = compared.args in
-    settling.settle.ensures
-    ∙ ap₂ (λ (d : Diff) (m : ℕ). settled d m a.first.now a.second.now)
-    compared.first_difference-highest.ensures compared.differ-apart.ensures
+    let a = c.args in
+    c.settle.ensures
+    ∙ ap₂ (λ (d : Diff) (m : ℕ). settled d m a.first.now a.second.now) c.first_difference-highest.ensures c.differ-apart.ensures

@@ -1,37 +1,30 @@
--- Either buffer under 64 refuses; then the two inputs are put, or nothing is, and the answer says which, for "records" with the index.
-use native.Mathlib.Omega.{arith}
-use Rattle.order.proofs.Laws.{refuses, passes}
-use Rattle.difference.specs.Outcome.{room_order}
-use Rattle.difference.proofs.Settled.{put_fits}
-use Rattle.findings.proofs.Settled.{refused_as, done_pair, done_records, done_same}
+-- As a finder of one record settles it, and for "records" with the index.
+use mathlib.Core.Path.{◌≡◌}
 use borrow.Author.Rules.{rules}
+use Rattle.std.specs.Prelude.{Err}
+use Rattle.inputs.specs.Inputs.{told}
+use Rattle.findings.specs.Outcome.{apart_at}
+use Rattle.findings.proofs.Settled.{as_refused, as_pair, as_records}
 use Rattle.findings.proofs.settle.Goals as goal
 
-pub returns-then-first-lt64 : goal.returns-then-first-lt64
-unfolding room_order
-returns-then-first-lt64 c = refuses 6 _ _ _ (refused_as _ _ 6 c.named_refused.ensures) (search rules)
-
-pub returns-then-second-lt64 : goal.returns-then-second-lt64
-unfolding room_order
-returns-then-second-lt64 c = refuses 6 _ _ _ (refused_as _ _ 6 c.named_refused-then-second-lt64.ensures) (search rules)
-
-pub returns-then-highest-ne0 : goal.returns-then-highest-ne0
-unfolding room_order
-returns-then-highest-ne0 c =
+pub returns-in_err-finding : goal.returns-in_err-finding
+returns-in_err-finding c =
     let a = c.args in
-    let e =
-    done_pair a.highest _ a.first.now a.second.now (λ z. omega (arith, c.if-highest-ne0.true))
-    (put_fits _ _ c.put.ensures (omega arith)) (put_fits _ _ c.put-then-highest-ne0.ensures (omega arith)) in
-    passes _ _ _ e (search rules)
+    let why = c.in_err-finding.field-0.0 in
+    let e : c.from_residual.result ≡ Err why = search rules in
+    rw e (as_refused (told a.highest) _ (apart_at a.apart) a.first.now a.second.now _ _ why c.in_err-finding.ensures)
 
-pub returns-then-apart-ne0 : goal.returns-then-apart-ne0
-unfolding room_order
-returns-then-apart-ne0 c =
+pub returns-in-Pair-default : goal.returns-in-Pair-default
+returns-in-Pair-default c =
     let a = c.args in
-    passes _ _ _ (done_records a.highest _ _ _ _ (omega (arith, c.if-highest-ne0.false)) c.if-apart-ne0.true) (search rules)
+    as_pair (told a.highest) _ (apart_at a.apart) a.first.now a.second.now _ _ _ c.in-Pair-default.is-0 c.in_ok-finding.ensures
 
-pub returns : goal.returns
-unfolding room_order
-returns c =
+pub returns-in_default-Some : goal.returns-in_default-Some
+returns-in_default-Some c =
     let a = c.args in
-    passes _ _ _ (done_same a.highest _ a.index _ _ (omega (arith, c.if-highest-ne0.false)) c.if-apart-ne0.false) (search rules)
+    rw c.in_default-Some.is-1 (as_records (told a.highest) _ _ a.first.now a.second.now _ _ _ c.in_default-Some.not-Pair-0 c.in_ok-finding.ensures)
+
+pub returns-in_default-None : goal.returns-in_default-None
+returns-in_default-None c =
+    let a = c.args in
+    rw c.in_default-None.is-1 (as_records (told a.highest) _ _ a.first.now a.second.now _ _ _ c.in_default-None.not-Pair-0 c.in_ok-finding.ensures)

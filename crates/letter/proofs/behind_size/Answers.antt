@@ -35,7 +35,9 @@ overflow_add-length-2 c = let f = few c.args.n c.read8-index.result (omega arith
 
 pub returns-then-letter-length : goal.returns-then-letter-length
 unfolding behind_outcome behind_order index_in stated_in
-returns-then-letter-length c = let k = counted c.args.n c.args.letter.now c.read8-index.ensures c.item_count-items.ensures in refuses 7 _ _ _ refl (search rules)
+returns-then-letter-length c =
+    let k = counted c.args.n c.args.letter.now c.read8-index.ensures c.item_count-items.ensures in
+    refuses 7 _ _ _ refl (search rules)
 
 pub returns : goal.returns
 unfolding behind_outcome behind_order index_in stated_in

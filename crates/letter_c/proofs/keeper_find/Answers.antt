@@ -1,16 +1,12 @@
 -- `letter_c::keeper_find` meets its contract: what the finder answers, and what is found where it is done.
 use native.Mathlib.Omega.{arith}
+use Rattle.refusals.proofs.Laws.{number_above}
 use Rattle.letter_c.proofs.Finder.{find_refused_lem, find_done_lem}
 use Rattle.letter_c.proofs.keeper_find.Goals as goal
 
-pub returns-then-f-ne0 : goal.returns-then-f-ne0
-returns-then-f-ne0 c =
-    let a = c.args in
-    find_refused_lem a.mode.now a.size a.nodes.now a.rec.now a.letter.now a.first.now a.second.now a.found.now
-    c.find-f.result _ _ c.find-f.ensures (λ z. omega arith)
+pub returns-in-Ok : goal.returns-in-Ok
+returns-in-Ok c = find_done_lem _ _ _ _ _ _ _ _ _ _ _ _ c.in-Ok.ensures c.from.ensures
 
-pub returns : goal.returns
-returns c =
-    let a = c.args in
-    find_done_lem a.mode.now a.size a.nodes.now a.rec.now a.letter.now a.first.now a.second.now a.found.now
-    c.find-f.result _ _ c.find-f.ensures _ c.finding_number.ensures (omega arith)
+pub returns-in-Err : goal.returns-in-Err
+returns-in-Err c =
+    rw c.from-in-Err.ensures (find_refused_lem _ _ _ _ _ _ _ _ _ _ _ c.in-Err.ensures (λ z. omega (arith, number_above c.in-Err.why, z)))

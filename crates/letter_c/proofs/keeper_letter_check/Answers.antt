@@ -1,18 +1,12 @@
 -- `letter_c::keeper_letter_check` meets its contract: what the checker answers, and its three results where it is done.
 use native.Mathlib.Omega.{arith}
+use Rattle.refusals.proofs.Laws.{number_above}
 use Rattle.letter_c.proofs.Letters.{check_refused_lem, check_done_lem}
 use Rattle.letter_c.proofs.keeper_letter_check.Goals as goal
 
-pub returns-then-c-ne0 : goal.returns-then-c-ne0
-returns-then-c-ne0 c =
-    let a = c.args in
-    let r = c.check-c in
-    check_refused_lem a.mode.now a.size a.root.now a.letter.now a.index.now a.record_at.now a.record_len.now r.result r.ensures
-    (λ z. omega arith)
+pub returns-in-Ok : goal.returns-in-Ok
+returns-in-Ok c = check_done_lem _ _ _ _ _ _ _ _ _ _ c.in-Ok.ensures
 
-pub returns : goal.returns
-returns c =
-    let a = c.args in
-    let r = c.check-c in
-    check_done_lem a.mode.now a.size a.root.now a.letter.now a.index.now a.record_at.now a.record_len.now r.result r.ensures
-    (omega arith)
+pub returns-in-Err : goal.returns-in-Err
+returns-in-Err c =
+    rw c.from.ensures (check_refused_lem _ _ _ _ _ _ _ _ c.in-Err.ensures (λ z. omega (arith, number_above c.in-Err.why, z)))

@@ -1,10 +1,13 @@
 -- What a walk to the letter's index finds, by the letter's record and items.
-use mathlib.Core.Path.{◌≡◌, sym, ap, ◌∙◌}
+use mathlib.Core.Path.{◌≡◌, refl, sym, ap, ◌∙◌}
 use mathlib.Core.List.{List}
 use Prim.Native.Nat.{ℕ, ◌^◌, ◌≤◌, ◌<◌}
 use lib.ListN.{length}
+use Rattle.std.specs.Prelude.{Bool, false, Option, None, Some}
+use Rattle.std.specs.Option.{is_some}
+use Rattle.inputs.specs.declared.Unequal.{Unequal}
 use Rattle.digest.specs.Digest.{digest_in, digest_length}
-use Rattle.wire.specs.Slices.{differ, rows_from}
+use Rattle.wire.specs.Slices.{bit, differ, rows_from}
 use Rattle.wire.proofs.Differences.{same_of_differ}
 use Rattle.shape.specs.Tree.{root, inputs}
 use Rattle.shape.specs.Way.{way}
@@ -41,17 +44,22 @@ whole mode bs n i theirs items {leaf} {w} p q l o =
     }
 
 -- where two records are the same, the digest of one is that of the other
-pub same_digest : (mode rec theirs : List ℕ) {apart : ℕ} {leaf : List ℕ} → apart ≡ differ rec theirs → leaf ≡ digest_in mode theirs → apart ≡ 0
+pub same_digest : (mode rec theirs : List ℕ) {apart : Bool} {leaf : List ℕ} → bit apart ≡ differ rec theirs → leaf ≡ digest_in mode theirs → apart ≡ false
     → leaf ≡ digest_in mode rec
-same_digest mode rec theirs e l z = l ∙ ap (digest_in mode) (sym (same_of_differ rec theirs (sym e ∙ z)))
+same_digest mode rec theirs e l z = l ∙ ap (digest_in mode) (sym (same_of_differ rec theirs (sym e ∙ ap bit z)))
+
+-- where no two inputs are told, no input differs
+alike : (d : Option Unequal) → is_some d ≡ false → told d ≡ agree
+alike None e = refl
+alike (Some u) e = absurd cc
 
 -- where the two roots are one and no input differs, no node on the path is broken
 pub whole_sound : {mode bs : List ℕ} {n i : ℕ} {theirs items : List ℕ} {w : Trail} → Whole mode bs n i theirs items w → i < n
-    → w.log.bytes ≡ w.letter.bytes → w.difference.apart ≡ 0 → broken (digest_in mode) (node_in bs) n i ≡ 0
+    → w.log.bytes ≡ w.letter.bytes → is_some w.difference ≡ false → broken (digest_in mode) (node_in bs) n i ≡ 0
 unfolding item_count
 whole_sound {mode} {bs} {n} {i} {theirs} {items} {w} k p e z =
     let xs = rows_from 32 0 (length (way n i)) items in
-    let a : told w.difference ≡ agree = rw z in
+    let a : told w.difference ≡ agree = alike w.difference z in
     agreed (digest_in mode) (digest_length mode) (node_in bs) (node_length bs) (digest_in mode theirs) (digest_length mode theirs) n i xs p
     (digests_length 0 (length (way n i)) items) (digests_each 0 (length (way n i)) items)
     (sym k.log ∙ e ∙ k.letter) (sym k.first ∙ a)

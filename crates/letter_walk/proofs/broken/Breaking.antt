@@ -3,7 +3,7 @@ use mathlib.Core.Path.{◌≡◌, refl, sym, ap, ap₂, ◌∙◌}
 use mathlib.Core.Logic.{◌≢◌, by_cases}
 use mathlib.Core.List.{List, ◌++◌}
 use Prim.Native.Nat.{ℕ, zero, suc, ◌+◌, ◌-◌, ◌*◌, ◌^◌, ◌≤◌, ◌<◌}
-use native.Mathlib.Decide.{ℕ_discrete}
+use native.Mathlib.Decide.{ℕ_discrete, dec_lt}
 use native.Mathlib.Omega.{arith}
 use lib.Pow.{pow_pos}
 use borrow.Author.Tests.{eq-eqb, ne_eqb}
@@ -95,6 +95,22 @@ module _ (digest : List ℕ → List ℕ) (bs : List ℕ) (n i s r under : ℕ) 
 
     pub broke_right : RightBreak (h - 1) h half
     broke_right = as_coded f RightBreak right_break
+
+-- a node on top that is broken breaks the way, wherever it leads
+module _ (digest : List ℕ → List ℕ) (bs : List ℕ) (n i s : ℕ) where
+  abbrev TopBreak : ℕ → ℕ → ℕ → Type 0
+  TopBreak g h half = Walkable h n i s 0 → half < n → 1 ≡ top_broken digest bs half (n - half) (s + (2 * half - 1))
+      → 1 ≡ broken_in digest (node_in bs) (suc h) n i s
+
+  top_break : (g : ℕ) → TopBreak g (suc g) (2 ^ g)
+  top_break g f p e =
+      let one : (x : ℕ) → 1 ≡ either (top_broken digest bs (2 ^ g) (n - 2 ^ g) (s + (2 * 2 ^ g - 1))) x =
+      λ x. either_some (top_broken digest bs (2 ^ g) (n - 2 ^ g) (s + (2 * 2 ^ g - 1))) x (λ z. omega arith) in
+      by_cases (dec_lt i (2 ^ g)) (λ q. left_break digest bs n i s 1 _ g f p q (one _) refl)
+      (λ q. right_break digest bs n i s 1 _ g f p (omega arith) (one _) refl)
+
+  pub broke_top : {h half : ℕ} → Above h n i s 0 half → TopBreak (h - 1) h half
+  broke_top f = as_coded f TopBreak top_break
 
 -- at no height there is one leaf
 pub broke_none : (digest : List ℕ → List ℕ) (bs : List ℕ) (n i s h : ℕ) → h ≡ 0 → Walkable h n i s 0 → 0 ≡ broken_in digest (node_in bs) (suc h) n i s

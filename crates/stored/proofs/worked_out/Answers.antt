@@ -5,6 +5,4 @@ use Rattle.stored.proofs.Fields.{record_slice_lem}
 use Rattle.stored.proofs.worked_out.Goals as goal
 
 pub returns : goal.returns
-returns c =
-    let a = c in
-    c.digest_of-digest.ensures ∙ ap (digest_in a.args.mode.now) (record_slice_lem a.args.bytes.now a.requires)
+returns c = c.digest_of.ensures ∙ ap (digest_in c.args.mode.now) (record_slice_lem c.args.bytes.now c.requires)

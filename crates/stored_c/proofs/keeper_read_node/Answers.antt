@@ -1,40 +1,39 @@
 -- `stored_c::keeper_read_node` meets its contract: what the reader answers, then 6, and the results of either kind where it is done.
-use mathlib.Core.Path.{◌≡◌, refl, ap}
+use mathlib.Core.Path.{refl, sym, ap, ◌∙◌}
 use native.Mathlib.Omega.{arith}
-use Rattle.stored.specs.declared.Node.{Node}
-use Rattle.stored.specs.Read.{inner_read, leaf_read, values_of, read_off}
-use Rattle.stored.proofs.Else.{else_done}
+use Rattle.refusals.proofs.Laws.{number_above}
+use Rattle.stored.specs.Read.{inner_read, leaf_read, values_of}
+use Rattle.stored.proofs.Only.{done_number}
 use Rattle.stored_c.proofs.Nodes.{read_refused_lem, read_short, read_done_lem}
 use Rattle.stored_c.proofs.keeper_read_node.Goals as goal
 
-pub returns-then-number-ne0 : goal.returns-then-number-ne0
-returns-then-number-ne0 c =
+pub returns-in-Err : goal.returns-in-Err
+returns-in-Err c =
     let a = c.args in
-    let r = c.read_node-reading in
-    read_refused_lem a.mode.now a.bytes.now a.kind.now a.out.now a.record_at.now a.record_len.now r.result r.ensures _
-    c.number_of-number.ensures (λ z. omega arith)
+    rw c.from.ensures
+    (read_refused_lem a.mode.now a.bytes.now a.kind.now a.out.now a.record_at.now a.record_len.now _ c.in-Err.ensures
+    (λ z. omega (arith, number_above c.in-Err.why)))
 
 pub returns-then-out-lt32 : goal.returns-then-out-lt32
 returns-then-out-lt32 c =
     let a = c.args in
-    let r = c.read_node-reading in
-    read_short a.mode.now a.bytes.now a.kind.now a.out.now a.record_at.now a.record_len.now r.result r.ensures
-    (omega (arith, c.number_of-number.ensures)) (omega arith)
+    let r = c.in-Ok.reading in
+    rw c.from-then-out-lt32.ensures
+    (read_short a.mode.now a.bytes.now a.kind.now a.out.now a.record_at.now a.record_len.now _ c.in-Ok.ensures (done_number r.node r.digest)
+    (omega arith))
 
-pub returns-in_default : goal.returns-in_default
-returns-in_default c =
+pub returns-in-Inner : goal.returns-in-Inner
+returns-in-Inner c =
     let a = c.args in
-    let r = c.read_node-reading in
-    let z : (read_off r.result).number ≡ 0 = omega (arith, c.number_of-number.ensures) in
-    let i = else_done r.result.node r.result.digest c.in_default.not-Leaf z in
-    read_done_lem a.mode.now a.bytes.now a.kind.now a.out.now a.record_at.now a.record_len.now r.result r.ensures
-    (inner_read r.result.digest) _ i refl (omega arith) c.write_digest.ensures
+    let r = c.in-Ok.reading in
+    let e = sym (ap (λ x. values_of x r.digest) c.in-Inner.is) ∙ c.in-Ok.ensures in
+    read_done_lem a.mode.now a.bytes.now a.kind.now a.out.now a.record_at.now a.record_len.now (inner_read r.digest) e refl _ (omega arith)
+    c.write_digest.ensures
 
-pub returns : goal.returns
-returns c =
+pub returns-in-Leaf : goal.returns-in-Leaf
+returns-in-Leaf c =
     let a = c.args in
-    let r = c.read_node-reading in
-    let l = ap (λ (x : Node). values_of x r.result.digest) c.in-Leaf.is in
-    read_done_lem a.mode.now a.bytes.now a.kind.now a.out.now a.record_at.now a.record_len.now r.result r.ensures
-    (leaf_read c.in-Leaf.length r.result.digest) _ l refl (omega arith)
+    let r = c.in-Ok.reading in
+    let e = sym (ap (λ x. values_of x r.digest) c.in-Leaf.is) ∙ c.in-Ok.ensures in
+    read_done_lem a.mode.now a.bytes.now a.kind.now a.out.now a.record_at.now a.record_len.now (leaf_read c.in-Leaf.n r.digest) e refl _ (omega arith)
     c.write_digest.ensures

@@ -2,25 +2,26 @@
 use mathlib.Core.Path.{refl}
 use native.Mathlib.Omega.{arith}
 use Rattle.order.proofs.Laws.{refuses}
+use Rattle.refusals.proofs.Laws.{number_above}
+use Rattle.kept.proofs.Writers.{write_refused_lem, write_done_lem}
 use Rattle.stored_c.specs.Nodes.{store_inner_call}
-use Rattle.stored_c.proofs.Nodes.{inner_refused, inner_done}
+use Rattle.stored_c.proofs.Nodes.{read_whole, behind}
 use borrow.Author.Rules.{rules}
 use Rattle.stored_c.proofs.keeper_store_inner.Goals as goal
 
 pub returns-then-digest-ne32 : goal.returns-then-digest-ne32
 unfolding store_inner_call
-returns-then-digest-ne32 c = refuses 12 _ _ _ refl (search rules)
+returns-then-digest-ne32 c = rw c.from.ensures (refuses 12 _ _ _ refl (search rules))
 
-pub returns-then-w-ne0 : goal.returns-then-w-ne0
-returns-then-w-ne0 c =
+pub returns-in-Err : goal.returns-in-Err
+returns-in-Err c =
     let a = c.args in
-    let w = c.write_inner-w in
-    inner_refused a.digest.now a.out.now a.length.now w.result _ _ (omega arith) c.read_digest.ensures w.ensures
-    (λ z. omega arith)
+    let e = read_whole a.digest.now a.out.now c.read_digest.result (omega arith) c.read_digest.ensures c.in-Err.ensures in
+    rw c.from-in-Err.ensures
+    (behind a.digest.now a.out.now a.length.now (omega arith) (write_refused_lem _ a.length.now _ _ e (λ z. omega (arith, number_above c.in-Err.why))))
 
-pub returns : goal.returns
-returns c =
+pub returns-in-Ok : goal.returns-in-Ok
+returns-in-Ok c =
     let a = c.args in
-    let w = c.write_inner-w in
-    inner_done a.digest.now a.out.now a.length.now w.result _ _ (omega arith) c.read_digest.ensures w.ensures
-    (omega arith)
+    let e = read_whole a.digest.now a.out.now c.read_digest.result (omega arith) c.read_digest.ensures c.in-Ok.ensures in
+    behind a.digest.now a.out.now a.length.now (omega arith) (write_done_lem _ a.length.now _ _ e)

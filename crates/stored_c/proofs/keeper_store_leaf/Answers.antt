@@ -1,21 +1,14 @@
 -- `stored_c::keeper_store_leaf` meets its contract: what the writer answers, and the length where it is done.
 use native.Mathlib.Omega.{arith}
-use Rattle.digest.specs.Digest.{digest_in}
-use Rattle.stored_writer.specs.Outcome.{leaf_outcome}
+use Rattle.refusals.proofs.Laws.{number_above}
 use Rattle.stored_c.specs.Nodes.{store_leaf_call}
 use Rattle.kept.proofs.Writers.{write_refused_lem, write_done_lem}
 use Rattle.stored_c.proofs.keeper_store_leaf.Goals as goal
 
-pub returns-then-w-ne0 : goal.returns-then-w-ne0
+pub returns-in-Err : goal.returns-in-Err
 unfolding store_leaf_call
-returns-then-w-ne0 c =
-    let a = c.args in
-    let w = c.write_leaf-w in
-    write_refused_lem (leaf_outcome (digest_in a.mode.now) a.rec.now a.out.now) a.length.now w.result _ w.ensures (λ z. omega arith)
+returns-in-Err c = rw c.from.ensures (write_refused_lem _ c.args.length.now _ _ c.in-Err.ensures (λ z. omega (arith, number_above c.in-Err.why)))
 
-pub returns : goal.returns
+pub returns-in-Ok : goal.returns-in-Ok
 unfolding store_leaf_call
-returns c =
-    let a = c.args in
-    let w = c.write_leaf-w in
-    write_done_lem (leaf_outcome (digest_in a.mode.now) a.rec.now a.out.now) a.length.now w.result _ w.ensures (omega arith)
+returns-in-Ok c = write_done_lem _ c.args.length.now _ _ c.in-Ok.ensures

@@ -1,4 +1,4 @@
--- `stored::write_inner` meets its contract: a refusal leaves the buffer, and flag and digest, one after the other, fill its first bytes.
+-- `stored_writer::write_inner` meets its contract: a refusal leaves the buffer, and flag and digest, one after the other, fill its first bytes.
 use mathlib.Core.Path.{refl}
 use Rattle.order.proofs.Laws.{refuses, passes}
 use Rattle.stored_writer.specs.Outcome.{inner_outcome}
@@ -14,6 +14,4 @@ pub returns : goal.returns
 unfolding inner_outcome
 returns c =
     let a = c.args in
-    passes _ _ _
-    (inner_filled a.digest a.out.now (search rules) (search rules) c.write_byte.ensures c.write_digest.ensures)
-    (search rules)
+    passes _ _ _ (inner_filled a.digest a.out.now (search rules) (search rules) c.write_byte.ensures c.write_digest.ensures) (search rules)

@@ -1,4 +1,4 @@
--- `stored::write_leaf` meets its contract: a refusal leaves the buffer, and the four fields, one after the other, fill its first bytes.
+-- `stored_writer::write_leaf` meets its contract: a refusal leaves the buffer, and the four fields, one after the other, fill its first bytes.
 use mathlib.Core.Path.{refl}
 use Rattle.order.proofs.Laws.{refuses, passes}
 use Rattle.digest.specs.Digest.{digest_in, digest_length}

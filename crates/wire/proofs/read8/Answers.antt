@@ -17,10 +17,9 @@ halves b h =
 
 pub returns : goal.returns
 returns c =
-    let k = c in
-    let e = k.read_run.ensures in
-    let a = k.args in
+    let e = c.read-b.ensures in
+    let a = c.args in
     let n = ap length e ∙ part_length a.at 8 a.s.now in
     let high = c.value_of-high.ensures in
     let low = c.value_of-low.ensures in
-    omega (arith, ap number e, halves k.read_run.new.d n)
+    omega (arith, ap number e, halves c.read-b.result n)

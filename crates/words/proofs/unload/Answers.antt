@@ -1,16 +1,13 @@
--- A loop that stores byte after byte fills the list of the words' bytes.
-use mathlib.Core.Path.{refl}
-use Rattle.words.specs.Words.{byte_of, bytes_of}
-use Rattle.words.proofs.Fill.{fills_none, fills_more, fills_all}
+-- A loop that stores the four bytes of word after word fills the list of the words' bytes.
+use Rattle.std.proofs.Common.{arith}
+use Rattle.words.specs.Words.{bytes_of}
+use Rattle.words.proofs.Fill.{fills_all}
+use Rattle.words.proofs.Bytes.{fills_word}
 use Rattle.words.proofs.unload.Goals as goal
 
-pub loop-i-init : goal.loop-i-init
-loop-i-init c = fills_none refl
-
 pub loop-i-preserved : goal.loop-i-preserved
-unfolding byte_of
-loop-i-preserved c = fills_more c.loop-i-test.true refl c.loop-i.invariant
+loop-i-preserved c = fills_word _ _ _ c.to_le_bytes.ensures c.loop-i-test.true c.copy_from_slice.ensures.after c.loop-i.invariant
 
 pub returns : goal.returns
 unfolding bytes_of
-returns c = fills_all c.loop-i-test.false c.loop-i.invariant
+returns c = fills_all (omega arith) c.loop-i.invariant

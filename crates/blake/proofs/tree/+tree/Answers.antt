@@ -13,16 +13,16 @@ pub returns-then-bytes-le1024 : goal.returns-then-bytes-le1024
 returns-then-bytes-le1024 t c =
     let k = c.args in
     c.chunk.ensures
-    ∙ tree_chunk 0 k.key k.flag k.root k.n k.bytes.now refl
-    ∙ tree_same k.key k.flag k.root k.n k.bytes.now 0 k.h (omega (arith, c.if-bytes-le1024.true)) c.requires.bytes
+    ∙ tree_chunk 0 k.keying.words k.keying.flag k.root k.n k.bytes.now refl
+    ∙ tree_same k.keying.words k.keying.flag k.root k.n k.bytes.now 0 k.h (omega (arith, c.if-bytes-le1024.true)) c.requires.bytes
 
 pub returns-then-bytes-eq4096 : goal.returns-then-bytes-eq4096
 returns-then-bytes-eq4096 t c =
     let k = c.args in
     let whole = c.if-bytes-eq4096.true in
     c.quad.ensures
-    ∙ treed4_done k.key k.flag k.root k.n k.bytes.now (room_quad k.h k.n (length k.bytes.now) c.requires whole) whole
-    ∙ tree_same k.key k.flag k.root k.n k.bytes.now 2 k.h (omega (arith, c.if-bytes-eq4096.true)) c.requires.bytes
+    ∙ treed4_done k.keying.words k.keying.flag k.root k.n k.bytes.now (room_quad k.h k.n (length k.bytes.now) c.requires whole) whole
+    ∙ tree_same k.keying.words k.keying.flag k.root k.n k.bytes.now 2 k.h (omega (arith, c.if-bytes-eq4096.true)) c.requires.bytes
 
 pub overflow_sub-below : goal.overflow_sub-below
 overflow_sub-below t c =
@@ -45,7 +45,7 @@ returns-then-bytes-left t c =
     let p = c.power-chunks in
     c.tree.ensures
     ∙ fits_short k.h k.n p.result k.bytes.now (room_some k.h k.n (length k.bytes.now) c.requires c.if-bytes-le1024.false) p.ensures.0
-    c.requires k.key k.flag k.root c.if-bytes-left.true
+    c.requires k.keying.words k.keying.flag k.root c.if-bytes-left.true
 
 pub slice_bounds-tree-end : goal.slice_bounds-tree-end
 slice_bounds-tree-end t c =
@@ -79,5 +79,5 @@ returns t c =
     let p = c.power-chunks in
     let s = room_some k.h k.n (length k.bytes.now) c.requires c.if-bytes-le1024.false in
     c.parent.ensures
-    ∙ fits_long k.h k.n p.result k.bytes.now s p.ensures.0 c.requires k.key k.flag k.root _ _
+    ∙ fits_long k.h k.n p.result k.bytes.now s p.ensures.0 c.requires k.keying.words k.keying.flag k.root _ _
     c.if-bytes-left.false c.tree-l.ensures c.tree-r.ensures

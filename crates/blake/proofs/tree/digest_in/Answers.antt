@@ -21,4 +21,4 @@ unfolding digested
 returns c =
     let k = c.args in
     let h = c.height-h in
-    c.unload.ensures ∙ ap bytes_of (c.tree.ensures ∙ tree_enough k.key k.flag 8 0 k.bytes.now h.result h.ensures.1)
+    c.unload.ensures ∙ ap bytes_of (c.tree.ensures ∙ tree_enough k.keying.words k.keying.flag 8 0 k.bytes.now h.result h.ensures.1)

@@ -5,6 +5,7 @@ use Prim.Native.Nat.{ℕ, ◌+◌}
 use Rattle.compression.specs.Compression.{compressed}
 use Rattle.words.specs.Words.{bytes_of}
 use Rattle.blake.proofs.tree.Pair.{pair_digest}
+use Rattle.std.proofs.Common.{rules}
 use Rattle.blake.proofs.tree.pair_in.Goals as goal
 
 pub returns : goal.returns
@@ -13,7 +14,7 @@ returns c =
     c.unload.ensures
     ∙ ap bytes_of
     (c.compress.ensures
-    ∙ ap (λ (m : List ℕ). compressed k.key m 0 64 (k.flag + 11))
+    ∙ ap (λ (m : List ℕ). compressed k.keying.words m 0 64 (k.keying.flag + 11))
     (c.join-m.ensures
     ∙ ap₂ (λ (x y : List ℕ). x ++ y) c.load_half.ensures c.load_half-2.ensures))
-    ∙ pair_digest k.key k.flag k.left k.right c.well_formed.1.1.0.1.0.1 c.well_formed.1.1.1.0.1.0.1
+    ∙ pair_digest k.keying.words k.keying.flag k.left k.right (search rules) (search rules)

@@ -8,7 +8,7 @@ use Rattle.chunks.proofs.lane.chunk4.Goals.{then-bytes-ne4096-via-then-bytes-ne4
 pub returns-then-bytes-ne4096 : goal.returns-then-bytes-ne4096
 returns-then-bytes-ne4096 c =
     let a = c.args in
-    chunked4_none a.key a.flag a.n a.bytes.now
+    chunked4_none a.keying.words a.keying.flag a.n a.bytes.now
     (λ few whole. elim c.then-bytes-ne4096.branch [
       | then-bytes-ne4096-via-then-bytes-ne4096 w ↦ w.if-bytes-ne4096.true whole
       | then-bytes-ne4096-via-else-bytes-ne4096+then-n-gt-MOST_FIRST w ↦ omega arith
@@ -20,4 +20,4 @@ whole4-requires c = (c.if-bytes-ne4096.false, omega arith)
 pub returns : goal.returns
 returns c =
     let a = c.args in
-    c.whole4.ensures ∙ chunked4_done a.key a.flag a.n a.bytes.now (omega arith) c.if-bytes-ne4096.false
+    c.whole4.ensures ∙ chunked4_done a.keying.words a.keying.flag a.n a.bytes.now (omega arith) c.if-bytes-ne4096.false

@@ -1,15 +1,11 @@
--- Lane after lane is filled: the inner loop stores the eight words of one compression.
-use mathlib.Core.Path.{◌≡◌, refl, ap, ap₂, ◌∙◌}
-use mathlib.Core.List.{List}
-use Prim.Native.Nat.{ℕ, ◌+◌, ◌-◌, ◌*◌, ◌%◌}
+-- Lane after lane is filled with the eight words of one compression.
+use Rattle.std.proofs.Common.{◌≡◌, ℕ, ◌+◌, ◌*◌, ◌%◌, List, take, drop, refl, ap, ap₂, ◌∙◌, arith}
 use native.Mathlib.Nat.{add-sub_cancel_left}
-use native.Mathlib.Omega.{arith}
-use lib.ListN.{take, drop}
 use Rattle.compression.specs.Compression.{compressed}
 use Rattle.words.specs.Words.{words_of}
 use Rattle.chunks.specs.Lanes.{lane_of, laned}
 use Rattle.chunks.specs.Steps.{compressed4}
-use Rattle.words.proofs.Fill.{fills_none, fills_more, fills_all, fills_less}
+use Rattle.words.proofs.Fill.{fills_none, fills_more, fills_less, fills_all}
 use Rattle.chunks.proofs.Laned.{rule_at}
 use Rattle.chunks.proofs.lane.compress4.Invariants.{lane_of_lem}
 use Rattle.chunks.proofs.lane.compress4.Goals as goal
@@ -32,7 +28,7 @@ loop-i-preserved c =
     (c.compress_lane-v.ensures
     ∙ ap₂ (λ (x y : List ℕ). compressed x y (a.n + k) 64 a.flags)
     (c.lane.ensures ∙ ap (lane_of a.cv) r)
-    (c.load.ensures ∙ ap (λ (j : ℕ). words_of 16 (take j (drop p a.bytes.now))) (add-sub_cancel_left p 64))))
+    (c.load-block.ensures ∙ ap (λ (j : ℕ). words_of 16 (take j (drop p a.bytes.now))) (add-sub_cancel_left p 64))))
     c.loop-i.invariant)
 
 pub loop-k-preserved : goal.loop-k-preserved

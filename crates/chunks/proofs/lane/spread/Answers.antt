@@ -1,16 +1,16 @@
--- A loop that stores word after word fills four lanes with the same words.
-use mathlib.Core.Path.{refl}
-use Prim.Native.Nat.{◌-◌}
+-- A loop that stores the words lane after lane fills four lanes with the same words.
+use Rattle.std.proofs.Common.{refl, arith}
 use Rattle.chunks.specs.Lanes.{laned}
-use Rattle.words.proofs.Fill.{fills_none, fills_more, fills_all}
+use Rattle.words.proofs.Fill.{fills_none, fills_all}
+use Rattle.chunks.proofs.Laned.{fills_lane}
 use Rattle.chunks.proofs.lane.spread.Goals as goal
 
-pub loop-i-init : goal.loop-i-init
-loop-i-init c = fills_none refl
+pub loop-k-init : goal.loop-k-init
+loop-k-init c = fills_none refl
 
-pub loop-i-preserved : goal.loop-i-preserved
-loop-i-preserved c = fills_more c.loop-i-test.true refl c.loop-i.invariant
+pub loop-k-preserved : goal.loop-k-preserved
+loop-k-preserved c = fills_lane (λ k. c.args.key) refl c.well_formed.0.1.0.1 c.loop-k-test.true c.copy_from_slice.ensures.after c.loop-k.invariant
 
 pub returns : goal.returns
 unfolding laned
-returns c = fills_all c.loop-i-test.false c.loop-i.invariant
+returns c = fills_all (omega arith) c.loop-k.invariant

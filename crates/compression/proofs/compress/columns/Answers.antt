@@ -3,7 +3,4 @@ use Rattle.compression.proofs.compress.Quarters.{columned_from}
 use Rattle.compression.proofs.compress.columns.Goals as goal
 
 pub returns : goal.returns
-returns c =
-    let at = c in
-    columned_from at.args.s at.args.m at.well_formed.0.1.0.1
-    c.mix-p.ensures c.mix-q.ensures c.mix-t.ensures c.mix-u.ensures
+returns c = columned_from c.args.s c.args.m c.well_formed.0.1.0.1 c.mix-p.ensures c.mix-q.ensures c.mix-t.ensures c.mix-u.ensures

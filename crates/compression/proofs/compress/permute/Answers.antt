@@ -8,11 +8,11 @@ use Rattle.compression.proofs.compress.permute.Goals as goal
 pub loop-i-init : goal.loop-i-init
 loop-i-init c = fills_none refl
 
-pub bounds-m-order : goal.bounds-m-order
-bounds-m-order c = order_inside c.loop-i.i (omega arith)
+pub bounds-m-i : goal.bounds-m-i
+bounds-m-i c = order_inside c.loop-i.i (omega arith)
 
-pub offset_bounds-m-order : goal.offset_bounds-m-order
-offset_bounds-m-order c = omega (arith, bounds-m-order c)
+pub offset_bounds-m-i : goal.offset_bounds-m-i
+offset_bounds-m-i c = omega (arith, bounds-m-i c)
 
 pub loop-i-preserved : goal.loop-i-preserved
 loop-i-preserved c = fills_more c.loop-i-test.true refl c.loop-i.invariant

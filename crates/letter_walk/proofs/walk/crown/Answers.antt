@@ -8,13 +8,13 @@ pub returns-then-rest-half : goal.returns-then-rest-half
 unfolding crown
 returns-then-rest-half c = let a = c.args in c.node_at.ensures ∙ sym (rw (eq-eqb a.rest a.half c.if-rest-half.true, crown))
 
-pub returns-then-apart-eq0 : goal.returns-then-apart-eq0
+pub returns-then-apart : goal.returns-then-apart
 unfolding crown
-returns-then-apart-eq0 c =
-    c.requires.1 c.if-apart-eq0.true ∙ sym (rw (ne_eqb c.args.rest c.args.half c.if-rest-half.false, crown))
+returns-then-apart c =
+    let a = c.args in
+    c.digest_of_pair.ensures ∙ sym (rw (ne_eqb a.rest a.half c.if-rest-half.false, crown))
 
 pub returns : goal.returns
 unfolding crown
 returns c =
-    let a = c.args in
-    c.digest_of_pair.ensures ∙ sym (rw (ne_eqb a.rest a.half c.if-rest-half.false, crown))
+    c.requires.1 c.if-apart.false ∙ sym (rw (ne_eqb c.args.rest c.args.half c.if-rest-half.false, crown))

@@ -1,9 +1,9 @@
--- Each part of a fork: the first difference, the letter's digest, and what stands on top.
-use mathlib.Core.Path.{refl, ap, sym, ◌∙◌}
-use Prim.Native.Nat.{ℕ}
+-- Where the two inputs are the same, the letter's digest is the log's.
+use mathlib.Core.Path.{ap, sym, ◌∙◌}
 use Rattle.digest.specs.Digest.{digest_in}
+use Rattle.wire.specs.Slices.{bit}
 use Rattle.wire.proofs.Differences.{same_of_differ}
-use Rattle.inputs.specs.Inputs.{bytes_of, above, told}
+use Rattle.inputs.specs.Inputs.{bytes_of}
 use borrow.Author.Rules.{rules}
 use Rattle.letter_walk.proofs.walk.fork.Goals as goal
 
@@ -14,17 +14,5 @@ crown-log-requires c =
       record { some = p.some; few = p.few; past = p.past; near = p.near; used = search rules },
       λ z.
           c.digest_of_pair-letter.ensures
-          ∙ ap (digest_in a.mode.now) (sym (same_of_differ (bytes_of a.ours) (bytes_of a.theirs) (sym c.inputs_differ-apart.ensures ∙ z))),
+          ∙ ap (digest_in a.mode.now) (sym (same_of_differ (bytes_of a.ours) (bytes_of a.theirs) (sym c.inputs_differ-apart.ensures ∙ ap bit z))),
     )
-
-pub returns : goal.returns
-returns c =
-    let a = c.args in
-    record {
-      used = refl;
-      log = c.crown-log.ensures;
-      letter = c.digest_of_pair-letter.ensures;
-      first =
-          c.higher-highest.ensures
-          ∙ ap (λ (k : ℕ). above k (bytes_of a.ours) (bytes_of a.theirs) (told a.low.difference)) c.inputs_differ-apart.ensures;
-    }

@@ -1,5 +1,10 @@
 -- The walk by recursion on the height: the indexes are cut in two; `Walking` has what each call may ask and what a fork adds.
-use mathlib.Core.Path.{sym}
+use mathlib.Core.Path.{◌≡◌, sym, ◌∙◌}
+use mathlib.Core.Logic.{◌≢◌}
+use mathlib.Core.Bool.{Bool, false}
+use Prim.Native.Nat.{ℕ, ◌<◌}
+use borrow.Author.Tests.{eqb-true, eqb-false}
+use lib.Dec.{eqb}
 use native.Mathlib.Omega.{arith}
 use lib.Seq.{length-take-le}
 use Rattle.digest.specs.Digest.{digest_in}
@@ -8,17 +13,21 @@ use Rattle.passage_walk.proofs.Walking.{walkable_low, walkable_left, passable, w
 use Rattle.passage_walk.proofs.Walking.{walked_none, walked_leaf, walked_low, walked_fork}
 use Rattle.passage_walk.proofs.walk.+walk.Goals as goal
 
-pub returns-then-is-eq0 : goal.returns-then-is-eq0
-returns-then-is-eq0 t c =
+-- there is an index
+some_index : {n : ℕ} {empty : Bool} → empty ≡ eqb n 0 → empty ≡ false → 0 < n
+some_index {n} e f = let h : n ≢ 0 = eqb-false n 0 (sym e ∙ f) in omega arith
+
+pub returns-then-is_empty : goal.returns-then-is_empty
+returns-then-is_empty t c =
     let a = c.args in
     walked_none (digest_in a.mode.now) a.nodes.now a.leaves.now a.items.now a.h a.n a.is.now a.at _
-    c.requires (omega arith) c.given.ensures
+    c.requires (eqb-true _ 0 (sym c.is_empty.ensures ∙ c.if-is_empty.true)) c.given.ensures
 
 pub returns-then-h-eq0 : goal.returns-then-h-eq0
 returns-then-h-eq0 t c =
     let a = c.args in
     walked_leaf (digest_in a.mode.now) a.nodes.now a.leaves.now a.items.now a.h a.n a.is.now a.at _
-    c.requires (omega arith) (omega arith) c.asked.ensures
+    c.requires (omega arith) (some_index c.is_empty.ensures c.if-is_empty.false) c.asked.ensures
 
 pub walk-requires : goal.walk-requires
 walk-requires t c =
@@ -98,6 +107,6 @@ returns t c =
     let f : Halved a.h c.power-half.result =
     halved a.h c.power-half.result (omega (arith, c.if-h-eq0.false)) (omega (arith, c.requires.countable.low)) c.power-half.ensures in
     walked_fork (digest_in a.mode.now) a.nodes.now a.leaves.now a.items.now a.h a.n a.is.now a.at c.power-half.result
-    c.below-k.result f (omega (arith, c.if-n-half.false)) c.requires.most (omega (arith, c.if-is-eq0.false))
+    c.below-k.result f (omega (arith, c.if-n-half.false)) c.requires.most (some_index c.is_empty.ensures c.if-is_empty.false)
     c.below-k.ensures.0 c.walk-left.result c.walk-right.result _ c.beyond-next.ensures c.walk-left.ensures
     c.walk-right.ensures c.join.ensures
