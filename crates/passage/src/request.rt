@@ -4,6 +4,7 @@ ghost use Rattle.order.specs.Order.{first_number};
 ghost use Rattle.refusals.specs.Numbers.{number_in};
 ghost use Rattle.passage.specs.Request.{request_order};
 
+use crate::MOST_RECORDS;
 use refusals::Refused;
 
 // 19 for a list that is no request.
@@ -13,7 +14,7 @@ pub fn request_refusal(is: &[u64]) -> Result<(), Refused>
     let Some((&first, rest)) = is.split_first() else {
         return Err(Refused::NotRising);
     };
-    if crate::MOST_RECORDS < is.len() {
+    if MOST_RECORDS < is.len() {
         return Err(Refused::NotRising);
     }
     let mut last = first;

@@ -3,7 +3,7 @@
 use Rattle.std.specs.Prelude.{List, ℕ}
 use Rattle.digest.specs.Digest.{digest_in}
 use Rattle.wire.specs.Writers.{WriteOutcome}
-use Rattle.difference.specs.Outcome.{finding_number}
+use Rattle.difference.specs.Findings.{finding_number}
 use Rattle.kept.specs.Kept.{or_kept, write_call}
 use Rattle.passage_writer.specs.Outcome.{write_outcome}
 use Rattle.passage_checker.specs.Outcome.{CheckOutcome, check_outcome}

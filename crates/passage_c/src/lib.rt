@@ -22,12 +22,8 @@ pub extern "C" fn keeper_passage_write(
         ≡ write_passage_call mode.now size indexes.now records.now lengths.now nodes.now
         out.old length.old }
 {
-    let w = passage_writer::write_passage(mode, size, indexes, records, lengths, nodes, out);
-    if w.number != 0 {
-        return w.number;
-    }
-    *length = w.length;
-    0
+    let answer = passage_writer::write_passage(mode, size, indexes, records, lengths, nodes, out);
+    kept::put(answer, length)
 }
 
 // A passage letter checked against a trusted size and root: how many records it has.
@@ -42,12 +38,7 @@ pub extern "C" fn keeper_passage_check(
     ensures { check_left result count.new
         ≡ check_call mode.now size root.now letter.now count.old }
 {
-    let c = passage_checker::check(mode, size, root, letter);
-    if c.number != 0 {
-        return c.number;
-    }
-    *count = c.count;
-    0
+    kept::put(passage_checker::check(mode, size, root, letter), count)
 }
 
 // Record k of a passage letter that is checked: its index, and where in the letter it lies; 0, 0, 0 past the last.
@@ -66,14 +57,21 @@ pub extern "C" fn keeper_passage_entry(
         ≡ entry_call mode.now size root.now letter.now k
         index.old record_at.old record_len.old }
 {
-    let e = passage_records::entry(mode, size, root, letter, k);
-    if e.number != 0 {
-        return e.number;
+    match passage_records::entry(mode, size, root, letter, k) {
+        Ok(Some(e)) => {
+            *index = e.index;
+            *record_at = e.start;
+            *record_len = e.length;
+            0
+        }
+        Ok(None) => {
+            *index = 0;
+            *record_at = 0;
+            *record_len = 0;
+            0
+        }
+        Err(why) => u32::from(why),
     }
-    *index = e.index;
-    *record_at = e.start;
-    *record_len = e.length;
-    0
 }
 
 // All records of a passage letter that is checked: every index, start and length into the first places of three slices.
@@ -92,12 +90,8 @@ pub extern "C" fn keeper_passage_entries(
         ≡ entries_call mode.now size root.now letter.now
         indexes.old starts.old lengths.old count.old }
 {
-    let c = passage_records::entries(mode, size, root, letter, indexes, starts, lengths);
-    if c.number != 0 {
-        return c.number;
-    }
-    *count = c.count;
-    0
+    let answer = passage_records::entries(mode, size, root, letter, indexes, starts, lengths);
+    kept::put(answer, count)
 }
 
 // A passage letter compared with the log's own nodes and the records that the log has there: what is found, the index that "records" names, and for a
@@ -119,12 +113,12 @@ pub extern "C" fn keeper_passage_find(
         ≡ find_call mode.now size nodes.now records.now lengths.now letter.now
         first.old second.old found.old index.old }
 {
-    let f = passage_finder::find(mode, size, nodes, records, lengths, letter, first, second);
-    if f.number != 0 {
-        return f.number;
+    match passage_finder::find(mode, size, nodes, records, lengths, letter, first, second) {
+        Ok(named) => {
+            *found = u32::from(named);
+            *index = named.index();
+            0
+        }
+        Err(why) => u32::from(why),
     }
-    let finding = f.finding;
-    *found = difference::finding_number(finding);
-    *index = f.index;
-    0
 }

@@ -1,11 +1,11 @@
 -- A letter that was taken apart: what the walk and the log's own records then tell of the letter; and where taking it apart refused, so does the
 -- finder.
-use mathlib.Core.Logic.{◌≢◌}
 use mathlib.Core.Path.{◌≡◌, sym, ap, ap₂, ◌∙◌}
 use mathlib.Core.List.{List}
 use Prim.Native.Nat.{ℕ, ◌-◌, ◌<◌}
 use native.Mathlib.Omega.{arith}
 use lib.ListN.{length, take, drop}
+use Rattle.wire.specs.Slices.{bit}
 use Rattle.wire.proofs.Lists.{rest_all}
 use Rattle.digest.specs.Digest.{digest_in, digest_length}
 use Rattle.order.specs.Order.{verdict, first_number}
@@ -25,8 +25,8 @@ use Rattle.passage.specs.Bytes.{places, indexes_in, end_in}
 use Rattle.passage.specs.Digests.{worked_root}
 use Rattle.passage.specs.Checking.{fields_order}
 use Rattle.passage_fields.specs.declared.Fields.{Fields}
-use Rattle.passage_fields.specs.Fields.{taken_apart, fields_outcome}
-use Rattle.passage_fields.proofs.Apart.{Apart, apart_number}
+use Rattle.passage_fields.specs.Fields.{fields_refused, fields_taken, fields_outcome}
+use Rattle.passage_fields.proofs.Apart.{apart, apart_number}
 use Rattle.passage_fields.proofs.Fits.{fits_within}
 use Rattle.passage_fields.proofs.Places.{places_count, indexes_count}
 use Rattle.passage_root.specs.Root.{leaf_digests}
@@ -36,14 +36,14 @@ use Rattle.passage_walk.specs.declared.Trail.{Trail}
 use Rattle.passage_walk.specs.Outcome.{WalkOutcome, walked_off, walk_done, walk_outcome}
 use Rattle.passage_walk.proofs.Whole.{walk_inside}
 use Rattle.passage_finder.specs.Outcome.{first_difference}
-use Rattle.passage_finder.specs.declared.Ours.{Ours}
-use Rattle.passage_finder.specs.Steps.{own_off, own_outcome, Beside, Formed}
+use Rattle.passage_finder.specs.Steps.{OwnOutcome, own_outcome, Beside, Formed}
 
 -- ---- taken apart
 
-module _ {size n : ℕ} (letter : List ℕ) {f : Fields} (count : Counts size n) (e : taken_apart f ≡ fields_outcome size n letter) where
-  pub formed : 0 < n → Apart size n letter e → Formed n letter f
-  formed some a =
+module _ {size n : ℕ} (letter : List ℕ) (count : Counts size n) where
+  pub formed : {f : Fields} → fields_taken f ≡ fields_outcome size n letter → 0 < n → Formed n letter f
+  formed e some =
+      let a = apart size n letter e in
       record {
         some = some;
         most = count.most;
@@ -58,12 +58,12 @@ module _ {size n : ℕ} (letter : List ℕ) {f : Fields} (count : Counts size n)
       }
 
   -- a refusal of its order
-  pub refused_fields : (first second : List ℕ) (done : NamedOutcome) {x : NamedOutcome} → x ≡ named_refused first second f.number → f.number ≢ 0
-      → x ≡ verdict (named_refused first second) (fields_order size (leaves size) letter) done
-  refused_fields first second done g h =
-      let k : f.number ≡ first_number (fields_order size (leaves size) letter) = rw count.value (apart_number size n letter e) in
-      g ∙ ap (named_refused first second) k
-      ∙ sym (refused_by (named_refused first second) done (fields_order size (leaves size) letter) (λ z. h (k ∙ z)))
+  pub refused_fields : (first second : List ℕ) (done : NamedOutcome) {k : ℕ} → 0 < k → fields_refused k ≡ fields_outcome size n letter
+      → named_refused first second k ≡ verdict (named_refused first second) (fields_order size (leaves size) letter) done
+  refused_fields first second done {k} h e =
+      let m : k ≡ first_number (fields_order size (leaves size) letter) = rw count.value (apart_number size n letter e) in
+      ap (named_refused first second) m
+      ∙ sym (refused_by (named_refused first second) done (fields_order size (leaves size) letter) (λ z. omega arith))
 
 -- ---- its parts, as the code has them
 
@@ -89,7 +89,7 @@ module _ {n : ℕ} {letter : List ℕ} {f : Fields} (a : Formed n letter f) (mod
   pub record Whole (bs : List ℕ) (w : Trail) : Type 0 where
     pub log : w.log.bytes ≡ own_root (digest_in mode) (node_in bs) n
     pub worked : w.letter.bytes ≡ worked_root (digest_in mode) n letter
-    pub broken : w.broken ≡ broken_by (digest_in mode) (node_in bs) (passage n (indexes_in letter)) n 0
+    pub broken : bit w.broken ≡ broken_by (digest_in mode) (node_in bs) (passage n (indexes_in letter)) n 0
     pub first : told w.difference ≡ first_difference (digest_in mode) (node_in bs) n letter
 
   pub whole : (bs : List ℕ) {ls : List ℕ} {w : Trail} → ls ≡ leaf_digests (digest_in mode) letter ps
@@ -114,7 +114,7 @@ module _ {n : ℕ} {letter : List ℕ} {f : Fields} (a : Formed n letter f) (mod
       }
 
   -- what is known of the log's own records
-  pub own_whole : (bs records lengths : List ℕ) (o : Ours) → own_off o ≡ own_outcome (digest_in mode) (node_in bs) is ps records lengths letter
-      → own_off o ≡ own_outcome (digest_in mode) (node_in bs) (indexes_in letter) (places letter) records lengths letter
-  own_whole bs records lengths o e =
+  pub own_whole : (bs records lengths : List ℕ) {o : OwnOutcome} → o ≡ own_outcome (digest_in mode) (node_in bs) is ps records lengths letter
+      → o ≡ own_outcome (digest_in mode) (node_in bs) (indexes_in letter) (places letter) records lengths letter
+  own_whole bs records lengths e =
       e ∙ ap₂ (λ (us vs : List ℕ). own_outcome (digest_in mode) (node_in bs) us vs records lengths letter) a.indexes a.places

@@ -1,9 +1,9 @@
 -- The log's own records beside the letter's: the first that differs, one record more, and the loop over them.
-use mathlib.Core.Logic.{◌≢◌}
 use mathlib.Core.Path.{◌≡◌, refl, sym, ap, ap₂, ◌∙◌}
 use mathlib.Core.List.{List, [], ◌∷◌, ◌++◌, map}
 use Prim.Native.Nat.{ℕ, zero, suc, ◌+◌, ◌≤◌, ◌<◌}
 use native.Mathlib.Omega.{arith}
+use Rattle.std.specs.Prelude.{Option, None}
 use lib.ListN.{length, get_or, take, drop, drop_of_length-le}
 use lib.Seq.{drop-drop}
 use Rattle.wire.specs.Slices.{differ}
@@ -12,20 +12,12 @@ use Rattle.order.proofs.Laws.{passes, clear, early, late}
 use Rattle.records.specs.Records.{total, cut, sums_order}
 use Rattle.records.proofs.Sums.{next_length, total_cons, sums_met}
 use Rattle.records.proofs.Cuts.{cut_next}
-use Rattle.findings.specs.Outcome.{Apart, nowhere, from, first_apart, apart_of}
+use Rattle.findings.specs.Outcome.{Apart, nowhere, from, first_apart, apart_of, apart_at}
 use Rattle.passage.specs.Bytes.{record_at}
-use Rattle.passage_finder.specs.declared.Ours.{Ours}
 use Rattle.passage_finder.specs.Outcome.{records_order}
-use Rattle.passage_finder.specs.Steps.{OwnOutcome, own_off, own_refused, own_done, soonest, Sooner, one_order, own_outcome}
+use Rattle.passage_finder.specs.Steps.{OwnOutcome, own_refused, own_done, soonest, one_order, own_outcome}
 
 -- ---- the first that differs
-
-pub soonest_here : (k i : ℕ) (b : Apart) → k ≢ 0 → apart_of k i ≡ soonest (apart_of k i) b
-soonest_here zero i b h = absurd (h refl)
-soonest_here (suc k) i b h = refl
-
-pub soonest_later : (k i : ℕ) (b : Apart) → k ≡ 0 → b ≡ soonest (apart_of k i) b
-soonest_later k i b e = rw e
 
 soonest_none : (a : Apart) → soonest a nowhere ≡ a
 soonest_none nowhere = refl
@@ -59,35 +51,29 @@ module _ (digest : List ℕ → List ℕ) (node : ℕ → List ℕ) (is places r
       verdict own_refused (records_order digest node (drop k is) (from_on at k))
       (own_done (soonest apart (first_apart (drop k is) (from_on at k) (theirs k))))
 
-  pub record Going (own : Ours) (at k : ℕ) : Type 0 where
-    pub within : k ≤ length is
-    pub none : own.number ≡ 0
+  pub record Going (first : Option ℕ) (at k : ℕ) : Type 0 where
     pub sum : at + total (drop k lengths) ≡ length records
-    pub same : going (apart_of own.apart own.index) at k ≡ own_outcome digest node is places records lengths letter
+    pub same : going (apart_at first) at k ≡ own_outcome digest node is places records lengths letter
 
   -- 16 for the lengths
-  module _ {sums : ℕ} (e : sums ≡ first_number (sums_order (length is) (length records) lengths)) where
-    pub going_none : {x : OwnOutcome} → sums ≢ 0 → x ≡ own_refused sums → x ≡ own_outcome digest node is places records lengths letter
-    unfolding own_outcome
-    going_none h f =
-        early own_refused (sums_order (length is) (length records) lengths) (records_order digest node is (cut lengths records)) _ (f ∙ ap own_refused e)
-        (λ z. h (e ∙ z))
+  pub going_none : {number : ℕ} → 0 < number → number ≡ first_number (sums_order (length is) (length records) lengths)
+      → own_refused number ≡ own_outcome digest node is places records lengths letter
+  unfolding own_outcome
+  going_none h e =
+      early own_refused (sums_order (length is) (length records) lengths) (records_order digest node is (cut lengths records)) _ (ap own_refused e)
+      (λ z. omega arith)
 
-    pub going_all : {own : Ours} → sums ≡ 0 → own_off own ≡ own_refused sums → Going own 0 0
-    unfolding own_outcome
-    going_all z f =
-        let order = sums_order (length is) (length records) lengths in
-        let s = sums_met (length is) (length records) lengths e z in
-        record {
-          within = omega arith;
-          none = ap (λ (x : OwnOutcome). x.number) f ∙ z;
-          sum = omega (arith, s.1);
-          same =
-              ap (λ (x : OwnOutcome). going x.apart 0 0) f
-              ∙ late own_refused order (records_order digest node is (cut lengths records)) _ (s.0, (s.1, tt)) refl;
-        }
+  pub going_all : 0 ≡ first_number (sums_order (length is) (length records) lengths) → Going None 0 0
+  unfolding own_outcome
+  going_all e =
+      let order = sums_order (length is) (length records) lengths in
+      let s = sums_met (length is) (length records) lengths e refl in
+      record {
+        sum = omega (arith, s.1);
+        same = late own_refused order (records_order digest node is (cut lengths records)) _ (s.0, (s.1, tt)) refl;
+      }
 
-  module _ {own : Ours} {at k : ℕ} (g : Going own at k) (p : k < length is) (many : length places ≡ length is)
+  module _ {first : Option ℕ} {at k : ℕ} (g : Going first at k) (p : k < length is) (many : length places ≡ length is)
       (each : length lengths ≡ length is) where
     abbrev long : ℕ
     long = get_or lengths k 0
@@ -119,7 +105,7 @@ module _ (digest : List ℕ → List ℕ) (node : ℕ → List ℕ) (is places r
     after = first_apart (drop (k + 1) is) (from_on (at + long) (k + 1)) (theirs (k + 1))
 
     abbrev sofar : Apart
-    sofar = apart_of own.apart own.index
+    sofar = apart_at first
 
     abbrev done : OwnOutcome
     done = own_done (soonest (soonest sofar (apart_of (differ rec other) (get_or is k 0))) after)
@@ -138,36 +124,32 @@ module _ (digest : List ℕ → List ℕ) (node : ℕ → List ℕ) (is places r
         ∙ g.same
 
     -- it is refused
-    pub going_refused : {number : ℕ} {x : OwnOutcome} → number ≡ first_number (one_order digest node (get_or is k 0) rec) → number ≢ 0
-        → x ≡ own_refused number → x ≡ own_outcome digest node is places records lengths letter
-    going_refused e h f =
-        early own_refused (one_order digest node (get_or is k 0) rec) later done (f ∙ ap own_refused e) (λ z. h (e ∙ z)) ∙ step
+    pub going_refused : {number : ℕ} → 0 < number → number ≡ first_number (one_order digest node (get_or is k 0) rec)
+        → own_refused number ≡ own_outcome digest node is places records lengths letter
+    going_refused h e = early own_refused (one_order digest node (get_or is k 0) rec) later done (ap own_refused e) (λ z. omega arith) ∙ step
 
     -- it is not
-    pub going_next : {number : ℕ} {next : Ours} → number ≡ first_number (one_order digest node (get_or is k 0) rec) → number ≡ 0
-        → Sooner own (differ rec other) (get_or is k 0) next → Going next (at + long) (k + 1)
+    pub going_next : {next : Option ℕ} → 0 ≡ first_number (one_order digest node (get_or is k 0) rec)
+        → apart_at next ≡ soonest sofar (apart_of (differ rec other) (get_or is k 0)) → Going next (at + long) (k + 1)
     unfolding one_order
-    going_next {next = next} e z s =
+    going_next e s =
         let order = one_order digest node (get_or is k 0) rec in
         record {
-          within = omega arith;
-          none = s.number ∙ g.none;
           sum = omega (arith, g.sum, ap total (next_length lengths k (omega arith)), total_cons long (drop (k + 1) lengths));
           same =
-              ap (λ (a : Apart). going a (at + long) (k + 1)) s.first
-              ∙ late own_refused order later done (clear order tt (sym e ∙ z)) refl
+              ap (λ (a : Apart). going a (at + long) (k + 1)) s
+              ∙ late own_refused order later done (clear order tt (sym e)) refl
               ∙ step;
         }
 
   -- all are done
-  pub going_end : {own : Ours} {at k : ℕ} → Going own at k → length is ≤ k → own_off own ≡ own_outcome digest node is places records lengths letter
+  pub going_end : {first : Option ℕ} {at k : ℕ} → Going first at k → length is ≤ k
+      → own_done (apart_at first) ≡ own_outcome digest node is places records lengths letter
   unfolding records_order first_apart
-  going_end {own} {at} {k} g p =
+  going_end {first} {at} {k} g p =
       let over : drop k is ≡ [] = drop_of_length-le is {i = k} p in
-      let a : Apart = apart_of own.apart own.index in
+      let a : Apart = apart_at first in
       let rs = from_on at k in
-      let e : own_off own ≡ own_done (soonest a nowhere) =
-      ap₂ (λ (m : ℕ) (x : Apart). record { number = m; apart = x }) g.none (sym (soonest_none a)) in
-      passes own_refused [] (own_done (soonest a nowhere)) e tt
+      passes own_refused [] (own_done (soonest a nowhere)) (ap own_done (sym (soonest_none a))) tt
       ∙ ap (λ (xs : List ℕ). verdict own_refused (records_order digest node xs rs) (own_done (soonest a (first_apart xs rs (theirs k))))) (sym over)
       ∙ g.same

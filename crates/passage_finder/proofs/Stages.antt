@@ -12,7 +12,7 @@ use Rattle.shape.specs.Difference.{agree}
 use Rattle.shape.specs.Sizes.{leaves}
 use Rattle.evidence_log.specs.Outcome.{root_order}
 use Rattle.letter_finder.specs.Outcome.{own_root}
-use Rattle.difference.specs.declared.Finding.TheVariants.{Same}
+use Rattle.difference.specs.Findings.{Same}
 use Rattle.difference.specs.Outcome.{room_order}
 use Rattle.difference.proofs.Settled.{same_refused}
 use Rattle.findings.specs.Outcome.{nowhere, NamedOutcome, named_refused, named_done, named_settled}

@@ -1,19 +1,20 @@
 -- What the finder's own steps are called, which no public contract cites: the log's own records beside the letter's, and a letter of the right form
 -- compared.
-use Rattle.std.specs.Prelude.{◌≡◌, List, [], ◌∷◌, ◌++◌, map, ℕ, ◌^◌, ◌≤◌, ◌<◌, length, get_or, take}
+use Rattle.std.specs.Prelude.{◌≡◌, Bool, false, Option, Result, List, [], ◌∷◌, ◌++◌, map, ℕ, ◌^◌, ◌≤◌, ◌<◌, length, get_or, take}
 use Rattle.wire.specs.Limits.{longest_record}
-use Rattle.wire.specs.Slices.{differ}
+use Rattle.refusals.specs.declared.Refused.{Refused}
+use Rattle.refusals.specs.Numbers.{outcome_by}
+use Rattle.wire.specs.Slices.{bit, differ}
 use Rattle.order.specs.Order.{Refusal, ◌if◌, ◌is_not◌, ◌above◌, verdict}
 use Rattle.records.specs.Records.{cut, sums_order}
 use Rattle.nodes.specs.Nodes.{node_in}
 use Rattle.letter.specs.Items.{foreign}
 use Rattle.letter_finder.specs.Outcome.{own_root}
-use Rattle.findings.specs.Outcome.{Apart, nowhere, from, first_apart, apart_of, NamedOutcome, named_refused, named_settled}
+use Rattle.findings.specs.Outcome.{Apart, nowhere, from, first_apart, apart_of, apart_at, NamedOutcome, named_refused, named_settled}
 use Rattle.passage.specs.Bytes.{record_at, count_in, places, indexes_in, end_in}
 use Rattle.passage.specs.Digests.{worked_root}
 use Rattle.passage_fields.specs.declared.Fields.{Fields}
 use Rattle.passage_finder.specs.Outcome.{first_difference, records_order, own_order, records_apart}
-use Rattle.passage_finder.specs.declared.Ours.{Ours}
 
 -- ---- the log's own records
 
@@ -21,10 +22,6 @@ use Rattle.passage_finder.specs.declared.Ours.{Ours}
 pub record OwnOutcome : Type 0 where
   pub number : ℕ
   pub apart : Apart
-
--- the outcome by the answer
-abbrev pub own_off : Ours → OwnOutcome
-own_off r = record { number = r.number; apart = apart_of r.apart r.index }
 
 -- a refusal: its number alone
 abbrev pub own_refused : ℕ → OwnOutcome
@@ -34,19 +31,22 @@ own_refused number = record { number = number; apart = nowhere }
 abbrev pub own_done : Apart → OwnOutcome
 own_done apart = record { number = 0; apart = apart }
 
+-- the outcome by the answer, the index of the first that differs or why there is none
+abbrev pub own_off : Result (Option ℕ) Refused → OwnOutcome
+own_off r = outcome_by own_refused (λ (first : Option ℕ). own_done (apart_at first)) r
+
 -- the first of two that names an index
 abbrev pub soonest : Apart → Apart → Apart
 soonest nowhere b = b
 soonest (from i) b = from i
 
 -- with one record more, which is at index i
-pub record Sooner (own : Ours) (apart i : ℕ) (r : Ours) : Type 0 where
-  pub number : r.number ≡ own.number
-  pub first : apart_of r.apart r.index ≡ soonest (apart_of own.apart own.index) (apart_of apart i)
+abbrev pub Sooner : Option ℕ → Bool → ℕ → Option ℕ → Type 0
+Sooner first apart i r = apart_at r ≡ soonest (apart_at first) (apart_of (bit apart) i)
 
 -- where a record does not differ from the letter's, the letter's leaf is its digest
-abbrev pub LeafBeside : (List ℕ → List ℕ) → ℕ → List ℕ → List ℕ → Type 0
-LeafBeside digest apart leaf rec = apart ≡ 0 → leaf ≡ digest rec
+abbrev pub LeafBeside : (List ℕ → List ℕ) → Bool → List ℕ → List ℕ → Type 0
+LeafBeside digest apart leaf rec = apart ≡ false → leaf ≡ digest rec
 
 -- one of the log's own records at its index
 unfoldable pub one_order : (List ℕ → List ℕ) → (ℕ → List ℕ) → ℕ → List ℕ → List Refusal

@@ -10,15 +10,7 @@ mod against;
 mod own;
 
 use findings::Named;
-use shape::Counted;
-
-// What is known of the log's own records: the number and, where `apart` is not 0, the index of the first that differs from the letter's.
-#[derive(Drop)]
-struct Ours {
-    number: u32,
-    apart: u8,
-    index: u64,
-}
+use refusals::Refused;
 
 // Compares a letter with the log's own nodes, and with its records at the indexes that the letter names, joined together. Refuses by 1, 10, 4, then
 // as checking does from 7 with the root of its own nodes, then by 16, by 3 and 13 for each of the log's own records, 14, 6. The buffers change only
@@ -32,24 +24,18 @@ pub fn find(
     letter: &[u8],
     first: &mut [u8],
     second: &mut [u8],
-) -> Named
+) -> Result<Named, Refused>
     ensures { named result first.new second.new
         ≡ find_outcome (digest_in mode.now) size nodes.now records.now lengths.now letter.now
         first.old second.old }
 {
-    let c = shape::leaf_count(size);
-    let Counted::Leaves(n) = c else {
-        return findings::named_refused(1);
-    };
+    let n = shape::leaf_count(size)?;
     if n == 0 {
-        return findings::named_refused(10);
+        return Err(Refused::EmptyLog);
     }
     if (nodes.len() as u64) < 32 * size {
-        return findings::named_refused(4);
+        return Err(Refused::NodesTooShort);
     }
-    let f = passage_fields::take_apart(size, n, letter);
-    if f.number != 0 {
-        return findings::named_refused(f.number);
-    }
+    let f = passage_fields::take_apart(size, n, letter)?;
     against::against(mode, nodes, n, f, records, lengths, letter, first, second)
 }

@@ -1,66 +1,57 @@
 // The log's own records beside the letter's, by rising index.
 ghost use Rattle.std.specs.Prelude.{◌≡◌};
+ghost use Rattle.refusals.specs.Numbers.{number_in};
 ghost use Rattle.order.specs.Order.{first_number};
 ghost use Rattle.digest.specs.Digest.{digest_in};
 ghost use Rattle.nodes.specs.Nodes.{node_in};
-ghost use Rattle.passage_finder.specs.Steps.{one_order, LeafBeside, Sooner, own_off, own_refused, Beside, own_outcome};
+ghost use Rattle.passage_finder.specs.Steps.{one_order, LeafBeside, Sooner, own_off, Beside, own_outcome};
 
-use crate::Ours;
 use digest::Digest;
+use refusals::Refused;
 
 // The digest of the log's own record, which is the letter's leaf where the two records are the same.
-fn own_digest(mode: &[u8; 36], apart: u8, leaf: Digest, rec: &[u8]) -> Digest
+fn own_digest(mode: &[u8; 36], apart: bool, leaf: Digest, rec: &[u8]) -> Digest
     requires { LeafBeside (digest_in mode.now) apart leaf.bytes rec.now }
     ensures { result.bytes ≡ digest_in mode.now rec.now }
 {
-    if apart == 0 {
-        return leaf;
+    if apart {
+        digest::digest_of(mode, rec)
+    } else {
+        leaf
     }
-    digest::digest_of(mode, rec)
 }
 
-// What one of the log's own records is refused with at its index: 0 for nothing.
-fn record_refusal(mode: &[u8; 36], nodes: &[u8], i: u64, rec: &[u8], apart: u8, leaf: Digest) -> u32
+// What one of the log's own records is refused with at its index.
+fn record_refusal(
+    mode: &[u8; 36],
+    nodes: &[u8],
+    i: u64,
+    rec: &[u8],
+    apart: bool,
+    leaf: Digest,
+) -> Result<(), Refused>
     requires { LeafBeside (digest_in mode.now) apart leaf.bytes rec.now }
-    ensures { result ≡ first_number (one_order (digest_in mode.now) (node_in nodes.now) i rec.now) }
+    ensures { number_in result ≡ first_number (one_order (digest_in mode.now) (node_in nodes.now) i rec.now) }
 {
     if wire::LONGEST_RECORD < rec.len() {
-        return 3;
+        return Err(Refused::RecordTooLong);
     }
     let own = own_digest(mode, apart, leaf, rec);
-    if letter::leaf::foreign(nodes, i, own) != 0 {
-        return 13;
+    if letter::leaf::foreign(nodes, i, own) {
+        return Err(Refused::OtherRecord);
     }
-    0
+    Ok(())
 }
 
-// The number alone.
-fn numbered(number: u32) -> Ours
-    ensures { own_off result ≡ own_refused number }
+// The index of the first that differs, with one record more, which is at index i: a record before that differs stays the first.
+fn sooner(first: Option<u64>, apart: bool, i: u64) -> Option<u64>
+    ensures { Sooner first apart i result }
 {
-    Ours {
-        number,
-        apart: 0,
-        index: 0,
-    }
+    if apart { first.or(Some(i)) } else { first }
 }
 
-// With one record more, which is at index i: a record before that differs stays the first.
-fn sooner(own: Ours, apart: u8, i: u64) -> Ours
-    ensures { Sooner own apart i result }
-{
-    if own.apart != 0 {
-        return own;
-    }
-    Ours {
-        number: own.number,
-        apart,
-        index: i,
-    }
-}
-
-// The log's own records, joined together, each in turn at the index and beside the letter's record that stand in the same place. Refuses by 16, then
-// by 3 and 13 for each.
+// The log's own records, joined together, each in turn at the index and beside the letter's record that stand in the same place: the index of the
+// first that differs, if one does. Refuses by 16, then by 3 and 13 for each.
 pub(crate) fn own_records(
     mode: &[u8; 36],
     nodes: &[u8],
@@ -70,32 +61,22 @@ pub(crate) fn own_records(
     lengths: &[u32],
     letter: &[u8],
     leaves: &[u8],
-) -> Ours
+) -> Result<Option<u64>, Refused>
     requires { Beside (digest_in mode.now) is.now places.now letter.now leaves.now }
     ensures { own_off result ≡ own_outcome (digest_in mode.now) (node_in nodes.now) is.now places.now
         records.now lengths.now letter.now }
 {
-    let sums = records::sums_refusal(is.len(), records.len(), lengths);
-    let mut own = numbered(sums);
-    if sums != 0 {
-        return own;
-    }
+    records::sums_refusal(is.len(), records.len(), lengths)?;
+    let mut first = None;
     let mut at = 0;
-    let mut k = 0;
-    while k < is.len() {
+    for (k, &i) in is.iter().enumerate() {
         let end = at + lengths[k] as usize;
         let rec = &records[at..end];
         let apart = wire::differ(rec, passage_fields::record_at(letter, places[k]));
         let leaf = nodes::node_at(leaves, k as u64);
-        let i = is[k];
-        let number = record_refusal(mode, nodes, i, rec, apart, leaf);
-        if number != 0 {
-            return numbered(number);
-        }
-        let next = sooner(own, apart, i);
-        own = next;
+        record_refusal(mode, nodes, i, rec, apart, leaf)?;
+        first = sooner(first, apart, i);
         at = end;
-        k += 1;
     }
-    own
+    Ok(first)
 }

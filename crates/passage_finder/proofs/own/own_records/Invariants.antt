@@ -1,13 +1,8 @@
--- What each turn of the loop of `own_records` keeps, and what falls.
-use Prim.Native.Nat.{◌-◌}
-use lib.ListN.{length}
+-- What each turn of the loop of `own_records` keeps.
 use Rattle.digest.specs.Digest.{digest_in}
 use Rattle.nodes.specs.Nodes.{node_in}
 use Rattle.passage_finder.proofs.Records.{Going}
 use Rattle.passage_finder.proofs.own.own_records.Given as goal
 
 abbrev pub invariant-loop-k : goal.invariant-loop-k
-invariant-loop-k l = Going (digest_in l.mode) (node_in l.nodes) l.is l.places l.records l.lengths l.letter l.own l.at l.k
-
-abbrev pub decreases-loop-k : goal.decreases-loop-k
-decreases-loop-k l = length l.is - l.k
+invariant-loop-k l = Going (digest_in l.mode) (node_in l.nodes) l.is l.places l.records l.lengths l.letter l.first l.at l.k

@@ -1,6 +1,8 @@
 -- Each refusal is the first of the order of one record that applies.
+use mathlib.Core.Path.{sym, ap, ◌∙◌}
 use Rattle.digest.specs.Digest.{digest_in}
 use Rattle.order.proofs.Laws.{first_is, first_none}
+use Rattle.wire.specs.Slices.{bit}
 use Rattle.nodes.specs.Nodes.{node_in}
 use Rattle.letter.proofs.Foreign.{foreign_by}
 use Rattle.passage_finder.specs.Steps.{one_order}
@@ -11,16 +13,18 @@ pub returns-then-rec-gt-LONGEST_RECORD : goal.returns-then-rec-gt-LONGEST_RECORD
 unfolding one_order
 returns-then-rec-gt-LONGEST_RECORD c = first_is 3 _ (search rules)
 
-pub returns-then-foreign-ne0 : goal.returns-then-foreign-ne0
+pub returns-then-foreign : goal.returns-then-foreign
 unfolding one_order
-returns-then-foreign-ne0 c =
+returns-then-foreign c =
     let a = c.args in
-    let e = foreign_by (digest_in a.mode.now) (node_in a.nodes.now) a.i a.rec.now c.own_digest-own.ensures c.foreign.ensures in
+    let e = foreign_by (digest_in a.mode.now) (node_in a.nodes.now) a.i a.rec.now c.own_digest-own.ensures
+    (sym (ap bit c.if-foreign.true) ∙ c.foreign.ensures) in
     first_is 13 _ (search rules)
 
 pub returns : goal.returns
 unfolding one_order
 returns c =
     let a = c.args in
-    let e = foreign_by (digest_in a.mode.now) (node_in a.nodes.now) a.i a.rec.now c.own_digest-own.ensures c.foreign.ensures in
+    let e = foreign_by (digest_in a.mode.now) (node_in a.nodes.now) a.i a.rec.now c.own_digest-own.ensures
+    (sym (ap bit c.if-foreign.false) ∙ c.foreign.ensures) in
     first_none _ (search rules)
