@@ -7,8 +7,7 @@ use Rattle.letter_items.proofs.write_items.Goals.{then-d-at-via-then-d-at, then-
 
 pub returns-then-n-i : goal.returns-then-n-i
 returns-then-n-i c =
-    let a = c.args in
-    written_none a.mode.now a.nodes.now a.d.now a.at a.n a.i
+    written_none _ _ _ _ _ _
     (λ p q. elim c.then-n-i.branch [
       | then-n-i-via-then-n-i w ↦ omega arith
       | then-n-i-via-else-n-i+then-n-gt-MOST_LEAVES w ↦ omega arith
@@ -16,21 +15,15 @@ returns-then-n-i c =
 
 pub returns-then-d-at : goal.returns-then-d-at
 returns-then-d-at c =
-    let a = c.args in
-    written_cut a.mode.now a.nodes.now a.d.now a.at a.n a.i (omega arith) (omega arith)
+    written_cut _ _ _ _ c.args.n c.args.i (omega arith) (omega arith)
     (elim c.then-d-at.branch [
       | then-d-at-via-then-d-at w ↦ omega arith
-      | then-d-at-via-else-d-at+then-d-at-2 w ↦ omega (arith, c.item_count.ensures)
+      | then-d-at-via-else-d-at+then-d-at-2 w ↦ omega arith
     ])
 
 pub put_items-requires : goal.put_items-requires
 put_items-requires c =
-    let a = c.args in
-    written_room a.mode.now a.nodes.now a.d.now a.at a.n a.i (omega arith) (omega arith) c.height.result c.height.ensures
-    (omega (arith, c.item_count.ensures))
+    written_room c.args.mode.now c.args.nodes.now c.args.d.now _ c.args.n c.args.i (omega arith) (omega arith) _ c.height.ensures (omega arith)
 
 pub returns : goal.returns
-returns c =
-    let a = c.args in
-    written_all a.mode.now a.nodes.now a.d.now a.at a.n a.i (omega arith) (omega arith) c.height.result c.height.ensures
-    (omega (arith, c.item_count.ensures)) c.put_items.ensures
+returns c = written_all _ _ _ _ c.args.n c.args.i (omega arith) (omega arith) _ c.height.ensures (omega arith) c.put_items.ensures
