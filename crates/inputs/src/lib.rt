@@ -29,7 +29,7 @@ pub fn digests_differ(a: Digest, b: Digest) -> bool
     wire::differ(&a.bytes, &b.bytes)
 }
 
-// Whether two inputs differ.
+// Whether two inputs differ. The derived `!=` says the same of the fields, this clause of the 64 bytes, which the finders' laws compare.
 pub fn inputs_differ(a: Input, b: Input) -> bool
     ensures { bit result ≡ differ (bytes_of a) (bytes_of b) }
 {

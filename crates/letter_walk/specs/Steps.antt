@@ -6,8 +6,8 @@ use Rattle.shape.specs.Letter.{fill}
 use Rattle.shape.specs.Way.{way_in}
 use Rattle.shape.specs.Positions.{peaks_in, fold}
 use Rattle.shape.specs.Seen.{seen_in}
-use Rattle.shape.specs.Difference.{difference}
-use Rattle.nodes.specs.Nodes.{node_in}
+use Rattle.shape.specs.Difference.{agree, difference}
+use Rattle.nodes.specs.Nodes.{node_in, fold_from}
 use Rattle.inputs.specs.Inputs.{bytes_of, above, told}
 use Rattle.inputs.specs.declared.Input.{Input}
 use Rattle.letter_walk.specs.declared.Trail.{Trail}
@@ -38,6 +38,32 @@ pub record OneFork (digest : List ℕ → List ℕ) (low : Trail) (t : List ℕ)
   pub log : w.log.bytes ≡ t
   pub letter : w.letter.bytes ≡ digest (bytes_of theirs)
   pub first : told w.difference ≡ above (differ (bytes_of ours) (bytes_of theirs)) (bytes_of ours) (bytes_of theirs) (told low.difference)
+
+-- the fork above a walk to the left, with the letter's side, and above one to the right
+pub record LeftForked (digest : List ℕ → List ℕ) (bs : List ℕ) (half rest mid : ℕ) (low : Trail) (side : List ℕ) (w : Trail) : Type 0 where
+  pub ours : Input
+  pub theirs : Input
+  pub own_left : ours.left.bytes ≡ low.log.bytes
+  pub own_right : ours.right.bytes ≡ fold_from digest bs rest mid
+  pub given_left : theirs.left.bytes ≡ low.letter.bytes
+  pub given_right : theirs.right.bytes ≡ side
+  pub fork : OneFork digest low (crown bs half rest mid (digest (bytes_of ours))) ours theirs w
+
+pub record RightForked (digest : List ℕ → List ℕ) (bs : List ℕ) (half rest mid : ℕ) (low : Trail) (side : List ℕ) (w : Trail) : Type 0 where
+  pub ours : Input
+  pub theirs : Input
+  pub own_left : ours.left.bytes ≡ node_in bs (mid - 1)
+  pub own_right : ours.right.bytes ≡ low.log.bytes
+  pub given_left : theirs.left.bytes ≡ side
+  pub given_right : theirs.right.bytes ≡ low.letter.bytes
+  pub fork : OneFork digest low (crown bs half rest mid (digest (bytes_of ours))) ours theirs w
+
+-- no turn: the leaf at position s
+pub record AtLeaf (bs : List ℕ) (s : ℕ) (leaf : List ℕ) (w : Trail) : Type 0 where
+  pub used : w.used ≡ 0
+  pub log : w.log.bytes ≡ node_in bs s
+  pub letter : w.letter.bytes ≡ leaf
+  pub first : told w.difference ≡ agree
 
 -- a walk to leaf i of n, n at most 2^h, whose nodes begin at position s, with the items from number `from` on
 pub record Walkable (h n i s from : ℕ) : Type 0 where

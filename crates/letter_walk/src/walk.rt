@@ -2,7 +2,7 @@
 ghost use Rattle.std.specs.Prelude.{◌≡◌, false};
 ghost use Rattle.digest.specs.Digest.{digest_in};
 ghost use Rattle.inputs.specs.Inputs.{bytes_of};
-ghost use Rattle.letter_walk.specs.Steps.{crown, Forkable, OneFork, Walkable, Walked};
+ghost use Rattle.letter_walk.specs.Steps.{crown, Forkable, OneFork, LeftForked, RightForked, AtLeaf, Walkable, Walked};
 
 use crate::Trail;
 use digest::Digest;
@@ -58,6 +58,66 @@ fn fork(
     }
 }
 
+// A fork whose left side the walk below went to: the log's right side is folded, the letter's is given.
+fn left_fork(
+    mode: &[u8; 36],
+    nodes: &[u8],
+    half: u64,
+    rest: u64,
+    mid: u64,
+    low: Trail,
+    side: Digest,
+) -> Trail
+    requires { Forkable half mid low.used }
+    ensures { LeftForked (digest_in mode.now) nodes.now half rest mid low side.bytes result }
+{
+    let ours = Input {
+        left: low.log,
+        right: nodes::fold_from(mode, nodes, rest, mid),
+    };
+    let theirs = Input {
+        left: low.letter,
+        right: side,
+    };
+    fork(mode, nodes, half, rest, mid, low, ours, theirs)
+}
+
+// A fork whose right side the walk below went to: the log's left side is a node, the letter's is given.
+fn right_fork(
+    mode: &[u8; 36],
+    nodes: &[u8],
+    half: u64,
+    rest: u64,
+    mid: u64,
+    low: Trail,
+    side: Digest,
+) -> Trail
+    requires { Forkable half mid low.used }
+    ensures { RightForked (digest_in mode.now) nodes.now half rest mid low side.bytes result }
+{
+    let ours = Input {
+        left: nodes::node_at(nodes, mid - 1),
+        right: low.log,
+    };
+    let theirs = Input {
+        left: side,
+        right: low.letter,
+    };
+    fork(mode, nodes, half, rest, mid, low, ours, theirs)
+}
+
+// No turn: the leaf at position s.
+fn at_leaf(nodes: &[u8], s: u64, leaf: Digest) -> Trail
+    ensures { AtLeaf nodes.now s leaf.bytes result }
+{
+    Trail {
+        log: nodes::node_at(nodes, s),
+        letter: leaf,
+        used: 0,
+        difference: None,
+    }
+}
+
 // The walk to leaf i of n leaves whose nodes begin at position s, n at most 2^h, with the letter's leaf and its items from number `from` on.
 pub(crate) fn walk(
     mode: &[u8; 36],
@@ -74,12 +134,7 @@ pub(crate) fn walk(
     ensures { Walked (digest_in mode.now) h n i s leaf.bytes from nodes.now items.now result }
 {
     if h == 0 {
-        return Trail {
-            log: nodes::node_at(nodes, s),
-            letter: leaf,
-            used: 0,
-            difference: None,
-        };
+        return at_leaf(nodes, s, leaf);
     }
     let g = h - 1;
     let half = shape::power(g);
@@ -90,38 +145,22 @@ pub(crate) fn walk(
     let rest = n - half;
     if i < half {
         let low = walk(mode, nodes, items, g, half, i, s, leaf, from);
-        let right = nodes::fold_from(mode, nodes, rest, mid);
         let side = nodes::node_at(items, from + low.used);
-        let ours = Input {
-            left: low.log,
-            right,
-        };
-        let theirs = Input {
-            left: low.letter,
-            right: side,
-        };
-        return fork(mode, nodes, half, rest, mid, low, ours, theirs);
+        return left_fork(mode, nodes, half, rest, mid, low, side);
     }
-    let left = nodes::node_at(nodes, mid - 1);
-    // Within a peak the side is the item behind those of the walk below, above the peaks it is the first.
-    let (low, side) = if rest == half {
+    if rest == half {
         let low = walk(mode, nodes, items, g, rest, i - half, mid, leaf, from);
         let side = nodes::node_at(items, from + low.used);
-        (low, side)
-    } else {
-        let side = nodes::node_at(items, from);
-        (
-            walk(mode, nodes, items, g, rest, i - half, mid, leaf, from + 1),
-            side,
-        )
-    };
-    let ours = Input {
-        left,
-        right: low.log,
-    };
-    let theirs = Input {
-        left: side,
-        right: low.letter,
-    };
-    fork(mode, nodes, half, rest, mid, low, ours, theirs)
+        return right_fork(mode, nodes, half, rest, mid, low, side);
+    }
+    let low = walk(mode, nodes, items, g, rest, i - half, mid, leaf, from + 1);
+    right_fork(
+        mode,
+        nodes,
+        half,
+        rest,
+        mid,
+        low,
+        nodes::node_at(items, from),
+    )
 }
