@@ -41,6 +41,7 @@ module _ (mode : List ℕ) (size : ℕ) (whole ks bs : List ℕ) where
         let k = get_or ks i 0 in
         let s : State = record { size = grown; bytes = last; taken = w.taken } in
         let r = take k rest in
+        let left : ℕ → List ℕ → State = λ x y. record { size = x; bytes = y; taken = (step digest s r).taken } in
         let p : o ≡ append_outcome digest grown r last = e ∙ ap (λ (x : List ℕ). append_outcome digest grown x last) f in
         let c : cut (drop i ks) rest ≡ r ∷ cut (drop (i + 1) ks) (drop k rest) =
         ap (λ (x : List ℕ). cut x rest) (next_length ks i h) ∙ cut_next k (drop (i + 1) ks) rest in
@@ -50,8 +51,8 @@ module _ (mode : List ℕ) (size : ℕ) (whole ks bs : List ℕ) where
           long = ap length m ∙ ap (λ (x : AppendOutcome). length x.bytes) p ∙ next_long digest s r (digest_length mode) ∙ w.long;
           taken = (step digest s r).taken;
           same =
-              ap₂ (λ (x : ℕ) (y : List ℕ). run digest (record { size = x; bytes = y; taken = (step digest s r).taken }) (cut (drop (i + 1) ks) after)) z m
-              ∙ ap₂ (λ (x : AppendOutcome) (y : List ℕ). run digest (record { size = x.size; bytes = x.bytes; taken = (step digest s r).taken }) (cut (drop (i + 1) ks) y)) p b
+              ap₂ (λ (x : ℕ) (y : List ℕ). run digest (left x y) (cut (drop (i + 1) ks) after)) z m
+              ∙ ap₂ (λ (x : AppendOutcome) (y : List ℕ). run digest (left x.size x.bytes) (cut (drop (i + 1) ks) y)) p b
               ∙ sym (ap (run digest s) c) ∙ w.same;
         }
 

@@ -1,16 +1,14 @@
 // A part of a list of lengths, and the line of one batch.
+use evidence_log::Appended;
 use runs::lines::{end_line, say_digest, say_numbers};
 
 // The first n lengths, or all where there are fewer.
 pub(crate) fn first<'a>(lengths: &'a [u32], n: usize) -> &'a [u32] {
-    if n <= lengths.len() {
-        return &lengths[..n];
-    }
-    lengths
+    lengths.get(..n).unwrap_or(lengths)
 }
 
 // One line: the size, how many joined bytes and lengths there are, and the room; the number, the size and the hash count; the digest of the buffer.
-// Hands back the size that is answered.
+// Hands back the size that is answered: on a refusal the one that was given.
 fn show_batch(
     rt: &impl Print,
     mode: &[u8; 36],
@@ -26,9 +24,10 @@ fn show_batch(
         nodes.len() as u64,
     ];
     say_numbers(rt, b" ", &row);
-    let a = batch::append_many(mode, size, records, lengths, nodes);
-    let answer = [a.number as u64, a.size, a.hashes];
-    say_numbers(rt, b":", &answer);
+    let answer = batch::append_many(mode, size, records, lengths, nodes);
+    let number = refusals::number(&answer);
+    let a = answer.unwrap_or(Appended { size, hashes: 0 });
+    say_numbers(rt, b":", &[number as u64, a.size, a.hashes]);
     say_digest(rt, b" ", nodes);
     end_line(rt);
     a.size
@@ -44,8 +43,8 @@ pub(crate) fn try_batch(
     nodes: &mut [u8],
     room: usize,
 ) -> u64 {
-    if room <= nodes.len() {
-        return show_batch(rt, mode, size, records, lengths, &mut nodes[..room]);
+    match nodes.get_mut(..room) {
+        Some(lent) => show_batch(rt, mode, size, records, lengths, lent),
+        None => 0,
     }
-    0
 }

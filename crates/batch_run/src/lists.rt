@@ -27,8 +27,7 @@ fn one_less(size: u64) -> usize {
     if 89 < size {
         return 0;
     }
-    let room = 32 * (size as usize);
-    if room == 0 { 0 } else { room - 1 }
+    (32 * size as usize).saturating_sub(1)
 }
 
 // The line of a batch of the first k records, which have so many bytes.
@@ -65,12 +64,10 @@ fn show_list(rt: &impl Print, mode: &[u8; 36], k: usize, bytes: u64) {
 
 // Each k from 0 to 40.
 pub(crate) fn show_all(rt: &impl Print, mode: &[u8; 36]) {
-    let lengths = forty();
     let mut bytes: u64 = 0;
-    for k in 0..40 {
+    for (k, &n) in forty().iter().enumerate() {
         show_list(rt, mode, k, bytes);
-        let next = std::num::wrapping_add_u64(bytes, lengths[k] as u64);
-        bytes = next;
+        bytes = bytes.wrapping_add(n as u64);
     }
     show_list(rt, mode, 40, bytes);
 }

@@ -16,9 +16,8 @@ fn try_row(
     room: usize,
 ) {
     let records = record_of(0);
-    let own = OWN;
     let mut nodes = [60u8; 2848];
-    batch::append_many(mode, 0, front(&records, 12), &own, &mut nodes);
+    let _ = batch::append_many(mode, 0, front(&records, 12), &OWN, &mut nodes);
     try_batch(
         rt,
         mode,

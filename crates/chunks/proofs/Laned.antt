@@ -1,9 +1,9 @@
 -- Four lanes in one list: what each place holds, and what each lane is.
 use mathlib.Core.Path.{◌≡◌, refl, sym, ap, ap₂, ◌∙◌}
 use mathlib.Core.List.{List}
-use Prim.Native.Nat.{ℕ, ◌+◌, ◌-◌, ◌*◌, ◌/◌, ◌%◌, ◌<◌, ◌≤◌}
+use Prim.Native.Nat.{ℕ, ◌+◌, ◌-◌, ◌*◌, ◌/◌, ◌%◌, ◌<◌}
 use native.Mathlib.Omega.{arith}
-use Rattle.std.proofs.Common.{length, get_or, take, drop, get_or-take, get_or-drop, length-take-le, length-drop}
+use Rattle.std.proofs.Common.{length, get_or}
 use borrow.Rule.Slice.PartMut.{put_mid}
 use Rattle.words.proofs.Fill.{Fills, fills_less, fills_put}
 use Rattle.words.specs.Build.{build}
@@ -34,17 +34,6 @@ lane_laned f k h e =
 pub lane_length : (v : List ℕ) (k : ℕ) → length (lane_of v k) ≡ 8
 unfolding lane_of
 lane_length v k = build_length 8 _
-
--- lane k, cut out
-pub lane_cut : (v : List ℕ) (k : ℕ) {r : List ℕ} → 8 * k + 8 ≤ length v → r ≡ take (8 * k + 8 - 8 * k) (drop (8 * k) v) → r ≡ lane_of v k
-unfolding lane_of
-lane_cut v k {r} h e =
-    let w : 8 * k + 8 - 8 * k ≡ 8 = omega arith in
-    let f : r ≡ take 8 (drop (8 * k) v) = cc in
-    let s : length r ≡ 8 = ap length f ∙ length-take-le 8 (drop (8 * k) v) (omega (arith, length-drop (8 * k) v)) in
-    build_self 8 r s
-    ∙ build_same 8 (λ i. get_or r i 0) (λ i. get_or v (8 * k + i) 0)
-    (λ i l. ap (λ (x : List ℕ). get_or x i 0) f ∙ get_or-take 8 (drop (8 * k) v) i 0 l ∙ get_or-drop (8 * k) v i 0)
 
 -- lane k, stored
 pub fills_lane : (f : ℕ → List ℕ) {k : ℕ} {out v new : List ℕ} → v ≡ f k → length (f k) ≡ 8 → k < 4 → new ≡ v

@@ -30,9 +30,9 @@ fn compress4(cv: [u32; 32], bytes: &[u8], at: usize, n: u64, flags: u32) -> [u32
     let mut out = [0u32; 32];
     for k in 0..4 {
         let p = 1024 * k + at;
-        let block = load(&bytes[p..p + 64]);
-        let v = compress_lane(lane(&cv, k), block, n + (k as u64), 64, flags);
-        // word by word: with one copy of the eight the vector code is lost (bench/lanes.sh)
+        let e = p + 64;
+        let v = compress_lane(lane(&cv, k), load(&bytes[p..e]), n + (k as u64), 64, flags);
+        // word by word, as in `lane`: with one copy of the eight the vector code is lost (bench/lanes.sh)
         for i in 0..8 {
             out[8 * k + i] = v[i];
         }

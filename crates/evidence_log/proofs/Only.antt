@@ -26,4 +26,5 @@ append_only outcome size a b x y p q =
 
 pub root_only : (outcome : RootOutcome) (a b : Result Digest Refused) → rooted a ≡ outcome → rooted b ≡ outcome → a ≡ b
 root_only outcome a b p q =
-    outcome_apart root_refused (λ d. rooted (Ok d)) (λ o. o.number) (λ n. refl) (λ d. refl) (λ c d e. λ i. record { bytes = (e i).root }) a b (p ∙ sym q)
+    outcome_apart root_refused (λ d. rooted (Ok d)) (λ o. o.number) (λ n. refl) (λ d. refl) (λ c d e. λ i. record { bytes = (e i).root }) a b
+    (p ∙ sym q)

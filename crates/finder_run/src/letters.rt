@@ -5,8 +5,7 @@ use runs::lines::say_numbers;
 
 // The line of one letter.
 fn show_line(rt: &impl Print, leaves: usize, size: u64, index: usize, nodes: &[u8; 512]) {
-    let numbers = [leaves as u64, index as u64];
-    say_numbers(rt, b"letter", &numbers);
+    say_numbers(rt, b"letter", &[leaves as u64, index as u64]);
     let mut letter = [0u8; 16640];
     let n = letter_of(size, index, nodes, &mut letter);
     let rec = record_of(index);
@@ -16,24 +15,17 @@ fn show_line(rt: &impl Print, leaves: usize, size: u64, index: usize, nodes: &[u
         nodes,
         front(&rec, length_of(index)),
         front(&letter, n),
-        80,
-        80,
+        [80, 80],
     );
-}
-
-// The lines of a log.
-fn show_log(rt: &impl Print, leaves: usize, size: u64, nodes: &[u8; 512]) {
-    for index in 0..leaves {
-        show_line(rt, leaves, size, index, nodes);
-    }
 }
 
 pub(crate) fn show_all(rt: &impl Print) {
     let mut nodes = [0u8; 512];
     let mut size: u64 = 0;
     for k in 0..9 {
-        let next = grow(size, k, &mut nodes);
-        size = next;
-        show_log(rt, k + 1, size, &nodes);
+        size = grow(size, k, &mut nodes);
+        for index in 0..k + 1 {
+            show_line(rt, k + 1, size, index, &nodes);
+        }
     }
 }

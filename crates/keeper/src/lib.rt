@@ -66,8 +66,12 @@ fn put_grown(answer: Result<Appended, Refused>, new_size: &mut u64, hashes: &mut
 {
     match answer {
         Ok(grown) => {
-            *new_size = grown.size;
-            *hashes = grown.hashes;
+            let Appended {
+                size,
+                hashes: count,
+            } = grown;
+            *new_size = size;
+            *hashes = count;
             0
         }
         Err(why) => u32::from(why),
@@ -87,7 +91,8 @@ pub extern "C" fn keeper_append(
     ensures { append_left result new_size.new hashes.new nodes.new
         ≡ append_call mode.now size rec.now nodes.old new_size.old hashes.old }
 {
-    put_grown(evidence_log::append(mode, size, rec, nodes), new_size, hashes)
+    let answer = evidence_log::append(mode, size, rec, nodes);
+    put_grown(answer, new_size, hashes)
 }
 
 // Many records, joined together, with the length of each: all of them, or none.
@@ -114,7 +119,8 @@ pub extern "C" fn keeper_append_many(
 pub extern "C" fn keeper_root(mode: &[u8; 36], size: u64, nodes: &[u8], out: &mut [u8]) -> u32
     ensures { filled result out.new ≡ root_call mode.now size nodes.now out.old }
 {
-    match evidence_log::root(mode, size, nodes) {
+    let answer = evidence_log::root(mode, size, nodes);
+    match answer {
         Ok(root) => kept::hand(root.bytes, out),
         Err(why) => u32::from(why),
     }

@@ -1,7 +1,7 @@
 -- What the call of the finder answers, and what it leaves behind each pointer: the finder's outcome, with what was there kept on a refusal.
 use Rattle.std.specs.Prelude.{List, ℕ}
 use Rattle.digest.specs.Digest.{digest_in}
-use Rattle.difference.specs.Outcome.{finding_number}
+use Rattle.difference.specs.Findings.{finding_number}
 use Rattle.letter_finder.specs.Outcome.{find_outcome}
 use Rattle.kept.specs.Kept.{or_kept}
 

@@ -20,7 +20,7 @@ use Rattle.evidence_log.specs.Hashed.{built_hashed}
 use Rattle.letter.specs.Bytes.{index_in, record_in}
 use Rattle.letter.specs.Items.{letter_tree}
 use Rattle.letter_writer.specs.Outcome.{our_letter, write_outcome}
-use Rattle.difference.specs.declared.Finding.TheVariants.{Same, Records, Pair}
+use Rattle.difference.specs.Findings.{Same, Records, Pair}
 use Rattle.difference.specs.Outcome.{FindOutcome, find_refused}
 use Rattle.letter_finder.specs.Outcome.{find_outcome}
 use Rattle.letter_promise.specs.Terms.{Log, log_size, record_at, Accepted, Ends}

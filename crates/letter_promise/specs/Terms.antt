@@ -6,7 +6,7 @@ use Rattle.shape.specs.Tree.{Tree, OnePlace}
 use Rattle.shape.specs.Difference.{Collision}
 use Rattle.evidence_log.specs.Appends.{Short}
 use Rattle.letter_checker.specs.Outcome.{check_outcome, record_by}
-use Rattle.difference.specs.declared.Finding.TheVariants.{Same, Records, Pair}
+use Rattle.difference.specs.Findings.{Same, Records, Pair}
 use Rattle.difference.specs.Outcome.{FindOutcome}
 
 -- a log: any list of 1 to 2^32 records, none above 16,384 bytes

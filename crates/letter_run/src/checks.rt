@@ -22,20 +22,26 @@ fn restated(named: u64, index: u64, stated: u64) -> [u8; 400] {
     out
 }
 
-// One line: what is given, and what the checker makes of it. The trusted size and how much of the root is lent; the size, the index and the record
-// length that the letter states, and its length.
-fn try_check(
-    rt: &impl Print,
-    size: u64,
-    lent: u64,
-    named: u64,
-    index: u64,
-    stated: u64,
-    length: u64,
-) {
+// What is given to a check: the trusted size and how much of the root is lent; the size, the index and the record length that the letter states, and
+// its length. Done, then each refusal once: 1, 12, 7 (under 20), 8, 5, 3, 7 (one byte short, one byte long), 9.
+const ROWS: [[u64; 6]; 10] = [
+    [11, 32, 11, 3, 200, 316],
+    [2, 32, 11, 3, 200, 316],
+    [11, 31, 11, 3, 200, 316],
+    [11, 32, 11, 3, 200, 19],
+    [11, 32, 4, 3, 200, 316],
+    [11, 32, 11, 7, 200, 316],
+    [11, 32, 11, 3, 16385, 316],
+    [11, 32, 11, 3, 200, 315],
+    [11, 32, 11, 3, 200, 317],
+    [11, 32, 11, 2, 200, 316],
+];
+
+// One line: what is given, and what the checker makes of it.
+fn try_check(rt: &impl Print, row: &[u64; 6]) {
     let mode = digest::plain();
-    let row = [size, lent, named, index, stated, length];
-    say_numbers(rt, b"check", &row);
+    say_numbers(rt, b"check", row);
+    let [size, lent, named, index, stated, length] = *row;
     let trusted = root();
     let given = restated(named, index, stated);
     let c = letter_checker::check(
@@ -48,20 +54,8 @@ fn try_check(
     end_line(rt);
 }
 
-// Done, then each refusal once: 1, 12, 7 (under 20), 8, 5, 3, 7 (one byte short, one byte long), 9.
-fn try_rows(rt: &impl Print) {
-    try_check(rt, 11, 32, 11, 3, 200, 316);
-    try_check(rt, 2, 32, 11, 3, 200, 316);
-    try_check(rt, 11, 31, 11, 3, 200, 316);
-    try_check(rt, 11, 32, 11, 3, 200, 19);
-    try_check(rt, 11, 32, 4, 3, 200, 316);
-    try_check(rt, 11, 32, 11, 7, 200, 316);
-    try_check(rt, 11, 32, 11, 3, 16385, 316);
-    try_check(rt, 11, 32, 11, 3, 200, 315);
-    try_check(rt, 11, 32, 11, 3, 200, 317);
-    try_check(rt, 11, 32, 11, 2, 200, 316);
-}
-
 pub(crate) fn show_all(rt: &impl Print) {
-    try_rows(rt);
+    for row in &ROWS {
+        try_check(rt, row);
+    }
 }

@@ -38,14 +38,11 @@ fn show_line(
     let mode = digest::plain();
     let mut out = output();
     let w = letter_writer::write_letter(&mode, size, index as u64, rec, nodes, &mut out);
-    let numbers = [
-        leaves as u64,
-        index as u64,
-        w.number as u64,
-        w.length as u64,
-    ];
+    let number = refusals::number(&w);
+    let length = w.unwrap_or(0);
+    let numbers = [leaves as u64, index as u64, number as u64, length as u64];
     say_numbers(rt, b"letter", &numbers);
-    show_letter(rt, size, root_of(size, nodes), &out, w.length, rec);
+    show_letter(rt, size, root_of(size, nodes), &out, length, rec);
 }
 
 // The lines of a log.
@@ -65,10 +62,9 @@ fn show_log(rt: &impl Print, leaves: usize, size: u64, nodes: &[u8; 1216]) {
 
 pub(crate) fn show_all(rt: &impl Print) {
     let mut nodes = [0u8; 1216];
-    let mut size: u64 = 0;
+    let mut size = 0;
     for k in 0..20 {
-        let next = grow(size, k, &mut nodes);
-        size = next;
+        size = grow(size, k, &mut nodes);
         show_log(rt, k + 1, size, &nodes);
     }
 }

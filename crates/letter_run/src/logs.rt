@@ -1,5 +1,6 @@
 // The logs that letters are of, what is written and checked of them, and how an answer is printed.
-use letter_checker::Checked;
+use letter::Fields;
+use refusals::Refused;
 use runs::given::{fill, front, length_of, record_of};
 use runs::lines::say_numbers;
 
@@ -7,16 +8,17 @@ use runs::lines::say_numbers;
 pub(crate) fn grow(size: u64, k: usize, nodes: &mut [u8; 1216]) -> u64 {
     let mode = digest::plain();
     let rec = record_of(k);
-    let a = evidence_log::append(&mode, size, front(&rec, length_of(k)), nodes);
-    a.size
+    match evidence_log::append(&mode, size, front(&rec, length_of(k)), nodes) {
+        Ok(grown) => grown.size,
+        Err(_) => 0,
+    }
 }
 
 // A log of the first n records; its size.
 pub(crate) fn log_of(n: usize, nodes: &mut [u8; 1216]) -> u64 {
-    let mut size: u64 = 0;
+    let mut size = 0;
     for k in 0..n {
-        let next = grow(size, k, nodes);
-        size = next;
+        size = grow(size, k, nodes);
     }
     size
 }
@@ -24,24 +26,18 @@ pub(crate) fn log_of(n: usize, nodes: &mut [u8; 1216]) -> u64 {
 // The root of a log.
 pub(crate) fn root_of(size: u64, nodes: &[u8; 1216]) -> [u8; 32] {
     let mode = digest::plain();
-    let r = evidence_log::root(&mode, size, nodes);
-    let d = r.root;
-    d.bytes
+    match evidence_log::root(&mode, size, nodes) {
+        Ok(root) => root.bytes,
+        Err(_) => [0u8; 32],
+    }
 }
 
 // The letter of an index, in the first bytes of an output; its length.
 pub(crate) fn letter_of(size: u64, index: usize, nodes: &[u8; 1216], out: &mut [u8]) -> usize {
     let mode = digest::plain();
     let rec = record_of(index);
-    let w = letter_writer::write_letter(
-        &mode,
-        size,
-        index as u64,
-        front(&rec, length_of(index)),
-        nodes,
-        out,
-    );
-    w.length
+    let rec = front(&rec, length_of(index));
+    letter_writer::write_letter(&mode, size, index as u64, rec, nodes, out).unwrap_or(0)
 }
 
 // An output before a letter is written.
@@ -58,8 +54,11 @@ pub(crate) fn changed_behind(out: &[u8; 16640], n: usize) -> u64 {
     wire::differ(out, &before) as u64
 }
 
-// A label, the number, the index, and where the record lies in the letter.
-pub(crate) fn show_checked(rt: &impl Print, label: &[u8], c: Checked) {
-    let numbers = [c.number as u64, c.index, c.start as u64, c.length as u64];
+// A label, the number, the index, and where the record lies in the letter. A refusal has 0 for these.
+pub(crate) fn show_checked(rt: &impl Print, label: &[u8], c: Result<Fields, Refused>) {
+    let numbers = match c {
+        Ok(f) => [0, f.index, f.start as u64, f.length as u64],
+        Err(why) => [u32::from(why) as u64, 0, 0, 0],
+    };
     say_numbers(rt, label, &numbers);
 }

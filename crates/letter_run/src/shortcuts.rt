@@ -72,8 +72,7 @@ fn show_whole(rt: &impl Print) {
     let mode = digest::plain();
     let mut letter = [0u8; 20];
     letter[7] = 1;
-    let d = digest::digest_of(&mode, b"");
-    let root = d.bytes;
+    let root = digest::digest_of(&mode, b"").bytes;
     show_checked(
         rt,
         b"one empty record:",

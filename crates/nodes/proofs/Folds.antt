@@ -21,9 +21,6 @@ module _ (k n s : ℕ) (room : Foldable k n s) where
     halves : Halved k half
     halves = halved k half fold_height (omega (arith, room.low)) e
 
-    pub half_bounds : (0 < half) × (s + 4 * half ≤ 2 ^ 36)
-    half_bounds = (halves.some, omega (arith, halves.whole, room.near))
-
     pub room_skip : n < half → Foldable (k - 1) n s
     room_skip h = record { low = omega (arith, room.low); some = room.some; few = omega (arith, halves.is); near = omega (arith, halves, room.near) }
 
@@ -33,7 +30,7 @@ module _ (k n s : ℕ) (room : Foldable k n s) where
           low = omega (arith, room.low);
           some = omega arith;
           few = omega (arith, halves, room.few);
-          near = omega (arith, halves, room.near, half_bounds.0);
+          near = omega (arith, halves, room.near, halves.some);
         }
 
     module _ (digest : List ℕ → List ℕ) (node : ℕ → List ℕ) where
@@ -45,7 +42,7 @@ module _ (k n s : ℕ) (room : Foldable k n s) where
       tallest : half ≤ n → peaks_in k n s ≡ (s + (2 * half - 2)) ∷ peaks_in (k - 1) (n - half) (s + (2 * half - 2) + 1)
       tallest h =
           let q : 2 ^ suc (k - 1) ≡ 2 * half = halves.double in
-          let b : behind (k - 1) s ≡ s + (2 * half - 2) + 1 = omega (arith, half_bounds.0) in
+          let b : behind (k - 1) s ≡ s + (2 * half - 2) + 1 = omega (arith, halves.some) in
           let t : top (k - 1) s ≡ s + (2 * half - 2) = omega arith in
           ap (λ (j : ℕ). peaks_in j n s) halves.below
           ∙ peaks_take (k - 1) n s (omega (arith, halves.is))

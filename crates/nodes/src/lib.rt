@@ -22,8 +22,9 @@ fn edge(nodes: &[u8], p: u64) -> Digest
     if BEYOND <= p {
         return Digest { bytes: [0u8; 32] };
     }
-    let bytes = wire::read_digest(nodes, (32 * p) as usize);
-    Digest { bytes }
+    Digest {
+        bytes: wire::read_digest(nodes, (32 * p) as usize),
+    }
 }
 
 // The digest at position p: zeros past the end.
@@ -34,10 +35,9 @@ pub fn node_at(nodes: &[u8], p: u64) -> Digest
         return edge(nodes, p);
     }
     let at = (32 * p) as usize;
-    let end = at + 32;
-    let mut out = [0u8; 32];
-    out.copy_from_slice(&nodes[at..end]);
-    Digest { bytes: out }
+    let mut bytes = [0u8; 32];
+    bytes.copy_from_slice(&nodes[at..at + 32]);
+    Digest { bytes }
 }
 
 // The peaks of n leaves, 1 to 2^32, whose nodes begin at position s, at most 2^34, folded: zeros for other numbers.

@@ -1,17 +1,16 @@
 -- How the calls reach their answers.
-use mathlib.Core.Path.{◌≡◌, refl, sym}
+use mathlib.Core.Path.{◌≡◌, refl, sym, ap, ◌∙◌}
 use mathlib.Core.List.{List, [], ◌∷◌}
 use Prim.Native.Nat.{ℕ, ◌+◌, ◌-◌, ◌^◌, ◌≤◌, ◌<◌}
 use native.Mathlib.Omega.{arith}
 use lib.ListN.{length}
 use Rattle.order.specs.Order.{first_number}
-use Rattle.order.proofs.Laws.{refuses, passes, clear}
+use Rattle.order.proofs.Laws.{refuses, passes, clear, refused_by, early}
 use Rattle.parts_rule.specs.Run.{taken, ended}
 use Rattle.subtrees.specs.Counts.{count_order}
-use Rattle.subtrees.proofs.Counted.{count_none}
 use Rattle.parts.specs.declared.Parts.{Parts}
-use Rattle.parts.specs.declared.Added.{Added}
-use Rattle.parts.specs.declared.Ended.{Ended}
+use Rattle.parts.specs.Answers.{Added}
+use Rattle.parts.specs.Answers.{Ended}
 use Rattle.parts.specs.State.{start_of, flag_of, Counted, run_of, stored}
 use Rattle.parts.specs.Answers.{state_order, add_order, add_refused, after, end_refused, add_outcome, end_outcome}
 
@@ -22,18 +21,14 @@ module _ (s : Parts) where
       let p = clear (state_order s) tt e in
       record { limit = p.0; held = p.1.0; stacked = p.1.1.0 }
 
-  counted_none : Counted s → 0 ≡ first_number (state_order s)
-  counted_none g = count_none s.total s.held s.stacked g.limit g.held g.stacked
-
   -- ---- the digest
 
   abbrev digested : Ended
   digested = record { number = 0; digest = record { bytes = ended (start_of s) (flag_of s) (run_of s) } }
 
-  pub end_refused_lem : (first_number (state_order s) ≡ 0 → ⊥) → end_refused 17 ≡ end_outcome s
-  unfolding count_order end_outcome
-  end_refused_lem n =
-      refuses 17 end_refused (state_order s) digested refl (λ f g i. n (sym (counted_none (record { limit = f; held = g; stacked = i }))))
+  pub end_refused_lem : {n : ℕ} → n ≡ first_number (state_order s) → 0 < n → end_refused n ≡ end_outcome s
+  unfolding end_outcome
+  end_refused_lem e l = ap end_refused e ∙ sym (refused_by end_refused digested (state_order s) (λ z. omega (arith, e, z)))
 
   pub end_done : Counted s → {d : List ℕ} → d ≡ ended (start_of s) (flag_of s) (run_of s)
       → record { number = 0; digest = record { bytes = d } } ≡ end_outcome s
@@ -47,10 +42,9 @@ module _ (s : Parts) where
     abbrev done : Added
     done = record { number = 0; state = after s part }
 
-    pub add_refused_lem : (first_number (state_order s) ≡ 0 → ⊥) → add_refused s 17 ≡ add_outcome s part
-    unfolding count_order add_outcome
-    add_refused_lem n =
-        refuses 17 (add_refused s) (add_order s part) done refl (λ f g i j. n (sym (counted_none (record { limit = f; held = g; stacked = i }))))
+    pub add_refused_lem : {n : ℕ} → n ≡ first_number (state_order s) → 0 < n → add_refused s n ≡ add_outcome s part
+    unfolding add_outcome
+    add_refused_lem e l = early (add_refused s) (state_order s) _ done (ap (add_refused s) e) (λ z. omega (arith, e, z))
 
     pub add_passed : 2 ^ 40 - s.total < length part → add_refused s 17 ≡ add_outcome s part
     unfolding count_order add_outcome

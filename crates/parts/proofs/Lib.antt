@@ -1,5 +1,4 @@
 -- Laws that the proofs cite.
-mod Same
 mod Begins
 mod Taking
 mod Ending

@@ -5,7 +5,7 @@ ghost use Rattle.parts_rule.specs.Run.{block_number};
 ghost use Rattle.parts_rule.specs.Stack.{padded};
 ghost use Rattle.parts_rule.specs.Steps.{Full, Gone};
 
-use chunks::{CHUNK_END, CHUNK_START};
+use chunks::{CHUNK_END, CHUNK_START, Keying};
 use compression::compress::compress;
 use subtrees::counts::chunks_before;
 use subtrees::push;
@@ -24,12 +24,8 @@ pub(crate) fn block_with(block: [u8; 64], n: usize, run: &[u8]) -> [u8; 64]
     ensures { result ≡ padded 64 (take n block ++ run.now) }
 {
     let mut out = [0u8; 64];
-    for k in 0..n {
-        out[k] = block[k];
-    }
-    for k in 0..run.len() {
-        out[n + k] = run[k];
-    }
+    out[..n].copy_from_slice(&block[..n]);
+    out[n..n + run.len()].copy_from_slice(run);
     out
 }
 
@@ -47,8 +43,7 @@ pub(crate) fn opening(flag: u8, total: u64) -> u32
 
 // A full block that bytes follow, the last of a total: it is compressed, and where it ends its chunk, the chunk's value goes on the stack.
 pub(crate) fn go_on(
-    key: [u32; 8],
-    flag: u8,
+    keying: Keying,
     chain: [u32; 8],
     stack: &mut [u32],
     stacked: u32,
@@ -56,15 +51,16 @@ pub(crate) fn go_on(
     block: &[u8],
 ) -> Onward
     requires { (length stack.old ≡ 240) × (length block.now ≡ 64) × Full total stacked }
-    ensures { Gone key flag chain stack.old stacked total block.now stack.new result.chain result.stacked }
+    ensures { Gone keying.words keying.flag chain stack.old stacked total block.now stack.new result.chain result.stacked }
 {
     let n = chunks_before(total);
-    let flags = opening(flag, total);
+    let flags = opening(keying.flag, total);
     if total - 1024 * n == 1024 {
         let v = compress(chain, load(block), n, 64, flags + CHUNK_END);
-        let count = push(key, flag, stack, stacked, n + 1, v);
+        let count = push(keying, stack, stacked, n + 1, v);
+        let start = keying.words;
         return Onward {
-            chain: key,
+            chain: start,
             stacked: count,
         };
     }

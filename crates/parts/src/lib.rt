@@ -2,13 +2,14 @@
 #![tactic(auto)]
 
 ghost use Rattle.std.specs.Prelude.{◌≡◌};
-ghost use Rattle.parts.specs.Answers.{begin_outcome, add_outcome, end_outcome};
+ghost use Rattle.parts.specs.Answers.{begin_outcome, add_outcome, added, end_outcome, ended_in};
 
 mod blocks;
 mod modes;
 mod take;
 
 use digest::Digest;
+use refusals::Refused;
 use subtrees::counts::{MOST, counted};
 
 // A state, as C lays it out, without padding: how many bytes came in all, how many of them the block holds, and how many subtrees the stack; the mode, whose
@@ -26,20 +27,6 @@ pub struct Parts {
     pub block: [u8; 64],
 }
 
-// What `add` answers: 0 and the new state, or 17 and the state given.
-#[derive(Drop)]
-pub struct Added {
-    pub number: u32,
-    pub state: Parts,
-}
-
-// What `end` answers: 0 and the digest, or 17 and zeros.
-#[derive(Drop)]
-pub struct Ended {
-    pub number: u32,
-    pub digest: Digest,
-}
-
 // The state that holds no byte, in a mode.
 pub fn begin(mode: &[u8; 36]) -> Parts
     ensures { result ≡ begin_outcome mode.now }
@@ -50,39 +37,26 @@ pub fn begin(mode: &[u8; 36]) -> Parts
 }
 
 // The state with a part more. A part of no bytes changes nothing.
-pub fn add(state: Parts, part: &[u8]) -> Added
-    ensures { result ≡ add_outcome state part.now }
+pub fn add(state: Parts, part: &[u8]) -> Result<Parts, Refused>
+    ensures { added state result ≡ add_outcome state part.now }
 {
     let total = state.total;
-    if counted(total, state.held, state.stacked) != 0 {
-        return Added { number: 17, state };
-    }
+    counted(total, state.held, state.stacked)?;
     if MOST - total < (part.len() as u64) {
-        return Added { number: 17, state };
+        return Err(Refused::PartsTooLong);
     }
     if part.len() == 0 {
-        return Added { number: 0, state };
+        return Ok(state);
     }
-    Added {
-        number: 0,
-        state: take::take_in(state, part),
-    }
+    Ok(take::take_in(state, part))
 }
 
 // The digest of what a state holds. The state stays as it is, and more may be added.
-pub fn end(state: Parts) -> Ended
-    ensures { result ≡ end_outcome state }
+pub fn end(state: Parts) -> Result<Digest, Refused>
+    ensures { ended_in result ≡ end_outcome state }
 {
-    if counted(state.total, state.held, state.stacked) != 0 {
-        return Ended {
-            number: 17,
-            digest: Digest { bytes: [0u8; 32] },
-        };
-    }
-    Ended {
-        number: 0,
-        digest: Digest {
-            bytes: take::finish(state),
-        },
-    }
+    counted(state.total, state.held, state.stacked)?;
+    Ok(Digest {
+        bytes: take::finish(state),
+    })
 }

@@ -8,11 +8,10 @@ ghost use Rattle.parts_rule.specs.Steps.{Ready, Went};
 
 use crate::Parts;
 use crate::blocks::{block_with, go_on, opening};
-use crate::modes::start_of;
-use blake::flag_in;
+use crate::modes::keying_of;
 use blake::flags::ROOT;
 use blake::tree::quad;
-use chunks::{CHUNK_END, chunk};
+use chunks::{CHUNK_END, Keying, chunk};
 use compression::compress::compress;
 use subtrees::counts::chunks_before;
 use subtrees::{clear, push, root};
@@ -26,18 +25,6 @@ struct Progress {
     by: usize,
 }
 
-// Whether eight words are the same.
-fn same_words(a: [u32; 8], b: [u32; 8]) -> bool
-    ensures { result ≡ true → a ≡ b }
-{
-    for i in 0..8 {
-        if a[i] != b[i] {
-            return false;
-        }
-    }
-    true
-}
-
 // Whether four chunks can be taken at once: their tree is a subtree, and the first begins as the others do.
 fn fits_four(key: [u32; 8], chain: [u32; 8], total: u64, left: usize) -> bool
     ensures { result ≡ true → (total % 4096 ≡ 0) × (4096 < left) × (chain ≡ key) }
@@ -48,13 +35,12 @@ fn fits_four(key: [u32; 8], chain: [u32; 8], total: u64, left: usize) -> bool
     if left <= 4096 {
         return false;
     }
-    same_words(chain, key)
+    chain == key
 }
 
 // One step through a part of more than 64 bytes, between two blocks: four chunks or one where they lie, if bytes follow them, or else one block.
 fn step(
-    key: [u32; 8],
-    flag: u8,
+    keying: Keying,
     chain: [u32; 8],
     stack: &mut [u32],
     stacked: u32,
@@ -62,11 +48,12 @@ fn step(
     part: &[u8],
 ) -> Progress
     requires { (length stack.old ≡ 240) × Ready stacked total (length part.now) × (64 < length part.now) }
-    ensures { Went key flag chain stack.old stacked total part.now stack.new result.chain result.stacked result.by × (0 < result.by) }
+    ensures { Went keying.words keying.flag chain stack.old stacked total part.now stack.new result.chain result.stacked result.by × (0 < result.by) }
 {
     let n = total / 1024;
+    let start = keying.words;
     if total % 1024 != 0 || part.len() <= 1024 {
-        let g = go_on(key, flag, chain, stack, stacked, total + 64, &part[..64]);
+        let g = go_on(keying, chain, stack, stacked, total + 64, &part[..64]);
         let words = g.chain;
         return Progress {
             chain: words,
@@ -74,19 +61,23 @@ fn step(
             by: 64,
         };
     }
-    if fits_four(key, chain, total, part.len()) {
-        let v = quad(key, flag, 0, n, &part[..4096]);
-        let count = push(key, flag, stack, stacked, n + 4, v);
+    if fits_four(start, chain, total, part.len()) {
+        let v = quad(keying, 0, n, &part[..4096]);
+        let count = push(keying, stack, stacked, n + 4, v);
         return Progress {
-            chain: key,
+            chain: start,
             stacked: count,
             by: 4096,
         };
     }
-    let v = chunk(chain, flag, 0, n, &part[..1024]);
-    let count = push(key, flag, stack, stacked, n + 1, v);
+    let open = Keying {
+        words: chain,
+        flag: keying.flag,
+    };
+    let v = chunk(open, 0, n, &part[..1024]);
+    let count = push(keying, stack, stacked, n + 1, v);
     Progress {
-        chain: key,
+        chain: start,
         stacked: count,
         by: 1024,
     }
@@ -94,8 +85,7 @@ fn step(
 
 // Steps through a part, between two blocks, until at most 64 bytes are left.
 fn steps(
-    key: [u32; 8],
-    flag: u8,
+    keying: Keying,
     chain: [u32; 8],
     stack: &mut [u32],
     stacked: u32,
@@ -103,7 +93,7 @@ fn steps(
     part: &[u8],
 ) -> Progress
     requires { (length stack.old ≡ 240) × Ready stacked total (length part.now) × (0 < length part.now) }
-    ensures { Went key flag chain stack.old stacked total part.now stack.new result.chain result.stacked result.by
+    ensures { Went keying.words keying.flag chain stack.old stacked total part.now stack.new result.chain result.stacked result.by
         × (length part.now ≤ result.by + 64) }
 {
     let mut words = chain;
@@ -111,8 +101,7 @@ fn steps(
     let mut at: usize = 0;
     while 64 < part.len() - at {
         let s = step(
-            key,
-            flag,
+            keying,
             words,
             stack,
             count,
@@ -164,9 +153,8 @@ fn take_on(s: Parts, part: &[u8]) -> Parts
     let key = s.key;
     let chain = s.chain;
     let mut stack = s.stack;
-    let start = start_of(s.keyed, key);
-    let flag = flag_in(s.keyed);
-    let w = steps(start, flag, chain, &mut stack, s.stacked, s.total, part);
+    let keying = keying_of(s.keyed, key);
+    let w = steps(keying, chain, &mut stack, s.stacked, s.total, part);
     let at = w.by;
     let count = w.stacked;
     let words = w.chain;
@@ -196,9 +184,8 @@ fn fill(s: Parts, part: &[u8]) -> Parts
     let space = 64 - (s.held as usize);
     let total = s.total + (space as u64);
     let full = block_with(block, s.held as usize, &part[..space]);
-    let start = start_of(s.keyed, key);
-    let flag = flag_in(s.keyed);
-    let g = go_on(start, flag, chain, &mut stack, s.stacked, total, &full);
+    let keying = keying_of(s.keyed, key);
+    let g = go_on(keying, chain, &mut stack, s.stacked, total, &full);
     let words = g.chain;
     let next = Parts {
         total,
@@ -244,11 +231,10 @@ pub(crate) fn finish(s: Parts) -> [u8; 32]
     let chain = s.chain;
     let stack = s.stack;
     let block = s.block;
-    let start = start_of(s.keyed, key);
-    let flag = flag_in(s.keyed);
+    let keying = keying_of(s.keyed, key);
     let n = chunks_before(s.total);
     let h = s.held as usize;
-    let flags = opening(flag, s.total) + CHUNK_END + root_flag(s.stacked);
+    let flags = opening(keying.flag, s.total) + CHUNK_END + root_flag(s.stacked);
     let v = compress(chain, load(&block[..h]), n, h as u32, flags);
-    unload(root(start, flag, &stack, s.stacked, v))
+    unload(root(keying, &stack, s.stacked, v))
 }

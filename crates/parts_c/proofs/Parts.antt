@@ -1,34 +1,38 @@
--- How the end of a digest in parts, as C sees it, follows from the end below it.
-use mathlib.Core.Logic.{◌≢◌}
-use mathlib.Core.Path.{◌≡◌, sym, ap, ◌∙◌}
+-- How the calls for a digest in parts, as C sees them, follow from the calls below them.
+use mathlib.Core.Path.{◌≡◌, refl, sym, ap, ◌∙◌}
 use mathlib.Core.List.{List}
-use Prim.Native.Nat.{ℕ, ◌≤◌, ◌<◌}
-use lib.ListN.{length}
-use Rattle.wire.specs.Slices.{written}
+use Prim.Native.Nat.{ℕ}
+use native.Mathlib.Omega.{arith}
+use Rattle.std.specs.Prelude.{Result, Ok, Err}
+use Rattle.refusals.specs.declared.Refused.{Refused}
+use Rattle.refusals.specs.Numbers.{number_of, number_in}
+use Rattle.refusals.proofs.Laws.{number_above}
+use Rattle.digest.specs.declared.Digest.{Digest}
 use Rattle.parts.specs.declared.Parts.{Parts}
-use Rattle.parts.specs.declared.Ended.{Ended}
-use Rattle.parts.specs.Answers.{end_outcome}
-use Rattle.kept.specs.Kept.{Filled, filled, handed}
-use Rattle.parts_c.specs.Parts.{end_call}
+use Rattle.parts.specs.Answers.{Added, added, add_outcome, Ended, ended_in, end_outcome}
+use Rattle.kept.specs.Kept.{value_or, Filled, filled, handed, or_kept}
 use Rattle.kept.proofs.Kept.{kept_done, kept_left}
-use Rattle.kept.proofs.Handed.{handed_short, handed_done}
+use Rattle.parts_c.specs.Parts.{PartsLeft, parts_left, add_call, end_call}
 
-module _ (state : Parts) (out : List ℕ) (r : Ended) (e : r ≡ end_outcome state) where
-  abbrev end_number : Ended → ℕ
-  end_number o = o.number
+-- a state that there is goes behind the pointer, and a refusal leaves what was there
+state_put : (s : Parts) (r : Result Parts Refused) → parts_left (number_in r) (value_or s r) ≡ parts_left (added s r).number (added s r).state
+state_put s (Ok next) = refl
+state_put s (Err why) = refl
 
-  -- the end refuses; the output is short; the digest is written
-  pub end_refused_lem : r.number ≢ 0 → filled r.number out ≡ end_call state out
+pub part_put : (s : Parts) (part : List ℕ) (r : Result Parts Refused) → added s r ≡ add_outcome s part → parts_left (number_in r) (value_or s r) ≡ add_call s part
+unfolding add_call
+part_put s part r e = state_put s r ∙ ap (λ (o : Added). parts_left o.number o.state) e
+
+module _ (state : Parts) (out : List ℕ) where
+  abbrev after : Ended → Filled
+  after o = or_kept o.number (handed o.digest.bytes out) (filled o.number out)
+
+  -- the end refuses; a digest is handed out
+  pub end_refused_lem : {r : Result Digest Refused} {why : Refused} → ended_in r ≡ end_outcome state → r ≡ Err why → filled (number_of why) out ≡ end_call state out
   unfolding end_call
-  end_refused_lem k = ap (λ (o : Ended). filled o.number out) e ∙ sym (kept_left _ _ _ (λ z. k (ap end_number e ∙ z)))
+  end_refused_lem {why = why} e f = sym (kept_left _ _ _ (λ z. omega (arith, number_above why, z))) ∙ ap after (sym (ap ended_in f) ∙ e)
 
-  given : {y : Filled} → r.number ≡ 0 → y ≡ handed r.digest.bytes out → y ≡ end_call state out
+  pub end_handed : {r : Result Digest Refused} {d : Digest} {y : Filled} → ended_in r ≡ end_outcome state → r ≡ Ok d → y ≡ handed d.bytes out
+      → y ≡ end_call state out
   unfolding end_call
-  given z f = f ∙ ap (λ (o : Ended). handed o.digest.bytes out) e ∙ sym (kept_done _ _ _ (sym (ap end_number e) ∙ z))
-
-  pub end_short : r.number ≡ 0 → length out < 32 → filled 6 out ≡ end_call state out
-  end_short z h = given z (handed_short r.digest.bytes out h)
-
-  pub end_done : (y : List ℕ) → r.number ≡ 0 → 32 ≤ length out → length r.digest.bytes ≡ 32
-      → y ≡ written 0 r.digest.bytes out → filled 0 y ≡ end_call state out
-  end_done y z h l w = given z (handed_done r.digest.bytes out y l h w)
+  end_handed e f h = h ∙ sym (kept_done _ _ _ refl) ∙ ap after (sym (ap ended_in f) ∙ e)

@@ -22,9 +22,7 @@ pub extern "C" fn keeper_parts_begin(mode: &[u8; 36], state: &mut Parts) -> u32
 pub extern "C" fn keeper_parts_add(state: &mut Parts, part: &[u8]) -> u32
     ensures { parts_left result state.new ≡ add_call state.old part.now }
 {
-    let a = parts::add(*state, part);
-    *state = a.state;
-    a.number
+    kept::put(parts::add(*state, part), state)
 }
 
 // The digest of all parts so far, into the first 32 bytes of out.
@@ -32,22 +30,8 @@ pub extern "C" fn keeper_parts_add(state: &mut Parts, part: &[u8]) -> u32
 pub extern "C" fn keeper_parts_end(state: &Parts, out: &mut [u8]) -> u32
     ensures { filled result out.new ≡ end_call state.now out.old }
 {
-    end_into(*state, out)
-}
-
-// The same of a state by value.
-fn end_into(state: Parts, out: &mut [u8]) -> u32
-    ensures { filled result out.new ≡ end_call state out.old }
-{
-    let e = parts::end(state);
-    if e.number != 0 {
-        return e.number;
+    match parts::end(*state) {
+        Ok(digest) => kept::hand(digest.bytes, out),
+        Err(why) => u32::from(why),
     }
-    if out.len() < 32 {
-        return 6;
-    }
-    let d = e.digest;
-    let b = d.bytes;
-    wire::write_digest(out, 0, b);
-    0
 }

@@ -11,7 +11,7 @@ use Rattle.digest.specs.Modes.{number_in, key_in}
 use Rattle.wire.specs.Slices.{zeros}
 use Rattle.parts_rule.specs.Run.{run_after}
 use Rattle.parts.specs.declared.Parts.{Parts}
-use Rattle.parts.specs.declared.Added.{Added}
+use Rattle.parts.specs.Answers.{Added}
 use Rattle.parts.specs.State.{start_in, Holds, stored}
 use Rattle.parts.specs.Answers.{begun_in, begin_outcome, after, add_outcome, end_outcome}
 use Rattle.parts_laws.specs.Cut.{added_all, cut_into, in_one}

@@ -14,7 +14,7 @@ use Rattle.wire.specs.Slices.{zeros}
 use Rattle.parts_rule.specs.Run.{Run, run_after, taken, ended}
 use Rattle.parts_rule.proofs.Takes.{ended_after, taken_after}
 use Rattle.parts.specs.declared.Parts.{Parts}
-use Rattle.parts.specs.declared.Added.{Added}
+use Rattle.parts.specs.Answers.{Added}
 use Rattle.parts.specs.State.{start_in, start_of, flag_of, Counted, Holds, run_of, stored}
 use Rattle.parts.specs.Answers.{begun_in, begin_outcome, after, add_outcome, end_outcome}
 use Rattle.parts.proofs.Answering.{add_done, end_done}

@@ -3,8 +3,8 @@ use mathlib.Core.Path.{◌≡◌, sym, ◌∙◌}
 use mathlib.Core.List.{List}
 use Prim.Native.Nat.{ℕ}
 use Rattle.parts.specs.declared.Parts.{Parts}
-use Rattle.parts.specs.declared.Added.{Added}
-use Rattle.parts.specs.declared.Ended.{Ended}
+use Rattle.parts.specs.Answers.{Added}
+use Rattle.parts.specs.Answers.{Ended}
 use Rattle.parts.specs.Answers.{begin_outcome, add_outcome, end_outcome}
 
 pub begin_only : (mode : List ℕ) (a b : Parts) → a ≡ begin_outcome mode → b ≡ begin_outcome mode → a ≡ b

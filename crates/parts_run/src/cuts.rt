@@ -18,10 +18,9 @@ fn part_of<'a>(bytes: &'a [u8], from: usize, n: usize) -> &'a [u8] {
 // The state with so many parts of one length more.
 fn taken(state: Parts, bytes: &[u8], length: usize, count: usize) -> Parts {
     let mut s = state;
-    for k in 0..count {
+    for _ in 0..count {
         let from = s.total as usize;
-        let a = parts::add(s, part_of(bytes, from, length));
-        s = a.state;
+        s = parts::add(s, part_of(bytes, from, length)).unwrap_or(s);
     }
     s
 }
@@ -33,7 +32,7 @@ fn show_row(rt: &impl Print, keyed: u32, length: usize, count: usize, more: usiz
     let bytes = record_of(0);
     let s = taken(begun(keyed), &bytes, length, count);
     let from = s.total as usize;
-    show_added(rt, parts::add(s, part_of(&bytes, from, more)));
+    show_added(rt, s, parts::add(s, part_of(&bytes, from, more)));
 }
 
 // The lengths of digest_run, in one part.

@@ -1,14 +1,15 @@
 // The line of a state: its numbers, two words of its stack, its block, and what it ends in.
-use parts::{Added, Parts};
+use digest::Digest;
+use parts::Parts;
+use refusals::Refused;
 use runs::lines::{end_line, say_digest, say_hex, say_number, say_numbers};
 
-// What a state ends in: the number and the digest; and the end of the line.
+// What a state ends in: the number and the digest, zeros where it is refused; and the end of the line.
 pub(crate) fn show_end(rt: &impl Print, s: Parts) {
-    let e = parts::end(s);
-    say_number(rt, b" ", e.number as u64);
-    let d = e.digest;
-    let bytes = d.bytes;
-    say_hex(rt, b" ", bytes);
+    let answer = parts::end(s);
+    say_number(rt, b" ", refusals::number(&answer) as u64);
+    let none = Digest { bytes: [0u8; 32] };
+    say_hex(rt, b" ", answer.unwrap_or(none).bytes);
     end_line(rt);
 }
 
@@ -18,11 +19,12 @@ fn show_places(rt: &impl Print, stack: [u32; 240]) {
     say_numbers(rt, b"", &words);
 }
 
-// What came of a part: the number, the state's numbers, two words of its stack, the digest of its block, and what it ends in.
-pub(crate) fn show_added(rt: &impl Print, a: Added) {
-    let s = a.state;
+// What came of a part: the number, the numbers of the state that there is then, two words of its stack, the digest of its block, and what it ends in.
+pub(crate) fn show_added(rt: &impl Print, state: Parts, answer: Result<Parts, Refused>) {
+    let number = refusals::number(&answer);
+    let s = answer.unwrap_or(state);
     let numbers = [
-        a.number as u64,
+        number as u64,
         s.total,
         s.held,
         s.stacked as u64,

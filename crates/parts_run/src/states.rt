@@ -10,8 +10,7 @@ pub(crate) fn begun(keyed: u32) -> Parts {
     if keyed == 0 {
         return parts::begin(&plain);
     }
-    let m = digest::keyed(b"whats the Elvish word for friend");
-    let mode = m.mode;
+    let mode = digest::keyed(b"whats the Elvish word for friend").unwrap_or(plain);
     parts::begin(&mode)
 }
 
@@ -57,7 +56,7 @@ fn try_counts(rt: &impl Print, kind: u32, total: u64, held: u64, stacked: u32, n
     say_numbers(rt, b" ", &row);
     show_end(rt, s);
     say_numbers(rt, b" ", &row);
-    show_added(rt, parts::add(s, front(&bytes, n)));
+    show_added(rt, s, parts::add(s, front(&bytes, n)));
 }
 
 // The counts of some totals, and each of them wrong by one.

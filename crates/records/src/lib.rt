@@ -8,7 +8,8 @@ ghost use Rattle.records.specs.Records.{sums_order};
 
 use refusals::Refused;
 
-// 16 where there are not so many lengths, or where they do not add up to so many bytes. What is left of the bytes is counted down, so that no sum wraps.
+// 16 where there are not so many lengths, or where they do not add up to so many bytes. What is left of the bytes is counted down, so that no sum
+// wraps.
 pub fn sums_refusal(count: usize, bytes: usize, lengths: &[u32]) -> Result<(), Refused>
     ensures { number_in result ≡ first_number (sums_order count bytes lengths.now) }
 {

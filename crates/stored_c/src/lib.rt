@@ -20,13 +20,7 @@ pub extern "C" fn keeper_store_leaf(
     ensures { write_left result length.new out.new
         ≡ store_leaf_call mode.now rec.now out.old length.old }
 {
-    match stored_writer::write_leaf(mode, rec, out) {
-        Ok(n) => {
-            *length = n;
-            0
-        }
-        Err(why) => u32::from(why),
-    }
+    kept::put(stored_writer::write_leaf(mode, rec, out), length)
 }
 
 // The stored inner node of a digest, into the first bytes of out.
@@ -38,13 +32,10 @@ pub extern "C" fn keeper_store_inner(digest: &[u8], out: &mut [u8], length: &mut
     if digest.len() != 32 {
         return u32::from(Refused::RootLength);
     }
-    match stored_writer::write_inner(wire::read_digest(digest, 0), out) {
-        Ok(n) => {
-            *length = n;
-            0
-        }
-        Err(why) => u32::from(why),
-    }
+    kept::put(
+        stored_writer::write_inner(wire::read_digest(digest, 0), out),
+        length,
+    )
 }
 
 // A stored node read: its kind, its digest into the first 32 bytes of out, and where in the bytes its record lies.

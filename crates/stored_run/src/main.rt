@@ -177,8 +177,8 @@ fn try_edit(rt: &impl Print, keyed: bool, n: usize, length: usize, flips: [Flip;
     show_read(rt, &mode_of(keyed), front(&edited(keyed, n, flips), length));
 }
 
-// The leaf of n bytes: true; then edited in the flag, in the first byte of the digest and in the last, in the record length at both ends, in the first
-// byte of the record and in the last, in digest and record. Behind a record of no bytes an edit is not seen.
+// The leaf of n bytes: true; then edited in the flag, in the first byte of the digest and in the last, in the record length at both ends, in the
+// first byte of the record and in the last, in digest and record. Behind a record of no bytes an edit is not seen.
 fn try_regions(rt: &impl Print, keyed: bool, n: usize)
     requires { n ≤ 16384 }
 {

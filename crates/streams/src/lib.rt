@@ -16,13 +16,10 @@ pub fn read_full<R: Read>(input: &mut R, buf: &mut [u8]) -> usize
 {
     let mut done = 0;
     while done < buf.len() {
-        let Ok(n) = input.read(&mut buf[done..]) else {
-            break;
-        };
-        if n == 0 {
-            break;
+        match input.read(&mut buf[done..]) {
+            Ok(0) | Err(_) => break,
+            Ok(n) => done += n,
         }
-        done += n;
     }
     done
 }

@@ -11,6 +11,7 @@ pub mod counts;
 
 use blake::flags::ROOT;
 use blake::tree::parent;
+use chunks::Keying;
 
 // Subtree i.
 fn subtree(stack: &[u32], i: usize) -> [u32; 8]
@@ -18,22 +19,18 @@ fn subtree(stack: &[u32], i: usize) -> [u32; 8]
     ensures { result ≡ subtree_at stack.now i }
 {
     let mut out = [0u32; 8];
-    for k in 0..8 {
-        out[k] = stack[8 * i + k];
-    }
+    out.copy_from_slice(&stack[8 * i..8 * i + 8]);
     out
 }
 
 // The subtrees from number `from` up to `top`, folded with v, the last first.
-fn fold(key: [u32; 8], flag: u8, stack: &[u32], from: usize, top: usize, v: [u32; 8]) -> [u32; 8]
+fn fold(keying: Keying, stack: &[u32], from: usize, top: usize, v: [u32; 8]) -> [u32; 8]
     requires { (length stack.now ≡ 240) × (from ≤ top) × (top ≤ 30) }
-    ensures { result ≡ folded key flag 0 (drop from (subtrees stack.now top)) (λ root. v) }
+    ensures { result ≡ folded keying.words keying.flag 0 (drop from (subtrees stack.now top)) (λ root. v) }
 {
-    let mut at = top;
     let mut w = v;
-    while from < at {
-        at = at - 1;
-        let next = parent(key, flag, 0, subtree(stack, at), w);
+    for at in (from..top).rev() {
+        let next = parent(keying, 0, subtree(stack, at), w);
         w = next;
     }
     w
@@ -44,21 +41,12 @@ fn store(stack: &mut [u32], i: usize, v: [u32; 8])
     requires { (length stack.old ≡ 240) × (i < 30) }
     ensures { stack.new ≡ paste stack.old (8 * i) v 8 }
 {
-    for k in 0..8 {
-        stack[8 * i + k] = v[k];
-    }
+    stack[8 * i..8 * i + 8].copy_from_slice(&v);
 }
 
 // Pushes the value that finishes so many chunks in all: it is folded with the subtrees that do not remain below it. How many there are then.
-pub fn push(
-    key: [u32; 8],
-    flag: u8,
-    stack: &mut [u32],
-    stacked: u32,
-    chunks: u64,
-    v: [u32; 8],
-) -> u32
-    ensures { push_left result stack.new ≡ push_outcome key flag stacked chunks v stack.old }
+pub fn push(keying: Keying, stack: &mut [u32], stacked: u32, chunks: u64, v: [u32; 8]) -> u32
+    ensures { push_left result stack.new ≡ push_outcome keying.words keying.flag stacked chunks v stack.old }
 {
     let count = u64::count_ones(chunks);
     if stack.len() != 240 {
@@ -77,14 +65,14 @@ pub fn push(
         return stacked;
     }
     let left = (count - 1) as usize;
-    let w = fold(key, flag, stack, left, stacked as usize, v);
+    let w = fold(keying, stack, left, stacked as usize, v);
     store(stack, left, w);
     count
 }
 
 // The root over the subtrees and v: the subtrees, folded with v, the first with the root flag. v itself where there is none.
-pub fn root(key: [u32; 8], flag: u8, stack: &[u32], stacked: u32, v: [u32; 8]) -> [u32; 8]
-    ensures { result ≡ root_outcome key flag stacked v stack.now }
+pub fn root(keying: Keying, stack: &[u32], stacked: u32, v: [u32; 8]) -> [u32; 8]
+    ensures { result ≡ root_outcome keying.words keying.flag stacked v stack.now }
 {
     if stack.len() != 240 {
         return v;
@@ -95,8 +83,8 @@ pub fn root(key: [u32; 8], flag: u8, stack: &[u32], stacked: u32, v: [u32; 8]) -
     if 30 < stacked {
         return v;
     }
-    let w = fold(key, flag, stack, 1, stacked as usize, v);
-    parent(key, flag, ROOT, subtree(stack, 0), w)
+    let w = fold(keying, stack, 1, stacked as usize, v);
+    parent(keying, ROOT, subtree(stack, 0), w)
 }
 
 // Zeros from word n on.
@@ -106,7 +94,5 @@ pub fn clear(stack: &mut [u32], n: usize)
     if stack.len() < n {
         return;
     }
-    for k in n..stack.len() {
-        stack[k] = 0;
-    }
+    stack[n..].fill(0);
 }

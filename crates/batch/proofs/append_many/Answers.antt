@@ -30,7 +30,8 @@ pub append_each-grown-requires : goal.append_each-grown-requires
 append_each-grown-requires c =
     let a = c.args in
     let k = counts_leaves c.leaf_count.ensures c.in_ok-n.was in
-    foreseen_sum (digest_in a.mode.now) a.size a.records.now a.lengths.now a.nodes.now (digest_length a.mode.now) k (sym (ap number_in c.in_ok-foresee.was) ∙ c.foresee.ensures) (λ z. omega arith)
+    foreseen_sum (digest_in a.mode.now) a.size a.records.now a.lengths.now a.nodes.now (digest_length a.mode.now) k
+    (sym (ap number_in c.in_ok-foresee.was) ∙ c.foresee.ensures) (λ z. omega arith)
 
 pub overflow_sub-result : goal.overflow_sub-result
 overflow_sub-result c =
@@ -45,5 +46,6 @@ pub returns : goal.returns
 returns c =
     let a = c.args in
     let k = counts_leaves c.leaf_count.ensures c.in_ok-n.was in
-    foreseen_done (digest_in a.mode.now) a.size a.records.now a.lengths.now a.nodes.now (digest_length a.mode.now) k (sym (ap number_in c.in_ok-foresee.was) ∙ c.foresee.ensures)
+    foreseen_done (digest_in a.mode.now) a.size a.records.now a.lengths.now a.nodes.now (digest_length a.mode.now) k
+    (sym (ap number_in c.in_ok-foresee.was) ∙ c.foresee.ensures)
     refl refl c.append_each-grown.ensures

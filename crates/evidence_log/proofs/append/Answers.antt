@@ -49,7 +49,8 @@ returns-in_err-hashes c =
     let k = counts_leaves c.leaf_count.ensures c.in_ok-n.was in
     let g = grown_size k c.merges.ensures in
     let r = rooms k c.merges.ensures (omega arith) in
-    let n = put_none (digest_in a.mode.now) a.size c.merges.result a.rec.now a.nodes.now r.0 (omega (arith, r.1)) c.put_new-put.ensures c.in_err-hashes.ensures.ok_part in
+    let n = put_none (digest_in a.mode.now) a.size c.merges.result a.rec.now a.nodes.now r.0 (omega (arith, r.1))
+    c.put_new-put.ensures c.in_err-hashes.ensures.ok_part in
     let p = err_from_is_err_and c.from_residual-in_err-hashes.result c.from_residual-in_err-hashes.ensures.1 in
     let v = rw c.in_err-hashes.ensures.ok_part at c.in_err-hashes.ensures.value in
     let w : c.in_err-hashes.field-0.0 ≡ NodesTooShort = cc in
@@ -60,7 +61,8 @@ overflow_add-result c =
     let a = c.args in
     let k = counts_leaves c.leaf_count.ensures c.in_ok-n.was in
     let r = rooms k c.merges.ensures (omega arith) in
-    let n = put_some (digest_in a.mode.now) a.size c.merges.result a.rec.now a.nodes.now r.0 (omega (arith, r.1)) c.put_new-put.ensures c.in_ok-hashes.ensures.ok_part in
+    let n = put_some (digest_in a.mode.now) a.size c.merges.result a.rec.now a.nodes.now r.0 (omega (arith, r.1))
+    c.put_new-put.ensures c.in_ok-hashes.ensures.ok_part in
     omega (arith, n.1)
 
 pub returns : goal.returns
@@ -70,6 +72,7 @@ returns c =
     let k = counts_leaves c.leaf_count.ensures c.in_ok-n.was in
     let g = grown_size k c.merges.ensures in
     let r = rooms k c.merges.ensures (omega arith) in
-    let n = put_some (digest_in a.mode.now) a.size c.merges.result a.rec.now a.nodes.now r.0 (omega (arith, r.1)) c.put_new-put.ensures c.in_ok-hashes.ensures.ok_part in
+    let n = put_some (digest_in a.mode.now) a.size c.merges.result a.rec.now a.nodes.now r.0 (omega (arith, r.1))
+    c.put_new-put.ensures c.in_ok-hashes.ensures.ok_part in
     let room : 32 * (a.size + (1 + c.merges.result)) ≤ length a.nodes.now = n.0 in
     passes _ _ _ (append_done_lem a.mode.now a.rec.now a.nodes.now k c.merges.ensures (ap (λ (h : ℕ). a.size + h) n.1) n.1 n.2) (search rules)

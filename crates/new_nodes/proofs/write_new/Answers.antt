@@ -13,7 +13,8 @@ pub loop-j-init : goal.loop-j-init
 loop-j-init c =
     let a = c.args in
     let e = c.digest_of-top.ensures in
-    writes_none a.mode.now (left_in a.saved.now) _ a.tail.now a.m (ap length e ∙ digest_length a.mode.now a.rec.now) c.requires.1 c.write_digest.ensures
+    writes_none a.mode.now (left_in a.saved.now) _ a.tail.now a.m (ap length e ∙ digest_length a.mode.now a.rec.now) c.requires.1
+    c.write_digest.ensures
 
 pub loop-j-preserved : goal.loop-j-preserved
 loop-j-preserved c =

@@ -8,6 +8,4 @@ use Rattle.nodes.proofs.node_at.Goals as goal
 
 pub returns : goal.returns
 unfolding node_in
-returns c =
-    let a = c.args in
-    copied a.nodes.now (32 * a.p) (omega arith) refl c.copy_from_slice.ensures.after
+returns c = copied _ (32 * c.args.p) (omega arith) refl c.copy_from_slice.ensures.after

@@ -1,9 +1,8 @@
--- `parts_c::keeper_parts_add` meets its contract: the state that `add` answers stands behind the pointer, and its number is returned.
-use mathlib.Core.Path.{ap}
-use Rattle.parts.specs.declared.Added.{Added}
-use Rattle.parts_c.specs.Parts.{parts_left, add_call}
+-- The state that `add` answers stands behind the pointer, and its number is returned.
+use Rattle.std.proofs.Common.{ap₂, ◌∙◌}
+use Rattle.parts_c.specs.Parts.{parts_left}
+use Rattle.parts_c.proofs.Parts.{part_put}
 use Rattle.parts_c.proofs.keeper_parts_add.Goals as goal
 
 pub returns : goal.returns
-unfolding add_call
-returns c = ap (λ (o : Added). parts_left o.number o.state) c.add-a.ensures
+returns c = ap₂ parts_left c.put.ensures.number c.put.ensures.value ∙ part_put _ _ c.add.result c.add.ensures

@@ -2,8 +2,7 @@
 use mathlib.Core.Path.{refl}
 use native.Mathlib.Omega.{arith}
 use Rattle.order.proofs.Laws.{refuses}
-use Rattle.refusals.proofs.Laws.{number_above}
-use Rattle.kept.proofs.Writers.{write_refused_lem, write_done_lem}
+use Rattle.kept.proofs.Writers.{write_put}
 use Rattle.stored_c.specs.Nodes.{store_inner_call}
 use Rattle.stored_c.proofs.Nodes.{read_whole, behind}
 use borrow.Author.Rules.{rules}
@@ -13,15 +12,9 @@ pub returns-then-digest-ne32 : goal.returns-then-digest-ne32
 unfolding store_inner_call
 returns-then-digest-ne32 c = rw c.from.ensures (refuses 12 _ _ _ refl (search rules))
 
-pub returns-in-Err : goal.returns-in-Err
-returns-in-Err c =
+pub returns : goal.returns
+returns c =
     let a = c.args in
-    let e = read_whole a.digest.now a.out.now c.read_digest.result (omega arith) c.read_digest.ensures c.in-Err.ensures in
-    rw c.from-in-Err.ensures
-    (behind a.digest.now a.out.now a.length.now (omega arith) (write_refused_lem _ a.length.now _ _ e (λ z. omega (arith, number_above c.in-Err.why))))
-
-pub returns-in-Ok : goal.returns-in-Ok
-returns-in-Ok c =
-    let a = c.args in
-    let e = read_whole a.digest.now a.out.now c.read_digest.result (omega arith) c.read_digest.ensures c.in-Ok.ensures in
-    behind a.digest.now a.out.now a.length.now (omega arith) (write_done_lem _ a.length.now _ _ e)
+    let e = read_whole a.digest.now a.out.now c.read_digest.result (omega arith) c.read_digest.ensures c.write_inner.ensures in
+    rw (c.put.ensures.number, c.put.ensures.value)
+    (behind a.digest.now a.out.now a.length.now (omega arith) (write_put _ a.length.now c.write_inner.result _ e))

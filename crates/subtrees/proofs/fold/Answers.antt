@@ -7,9 +7,7 @@ pub loop-at-init : goal.loop-at-init
 loop-at-init c = folds_none _ _ _ _ _ _ (omega arith)
 
 pub loop-at-preserved : goal.loop-at-preserved
-loop-at-preserved c =
-    folds_more _ _ (omega (arith, c.loop-at-test.true)) c.subtree.ensures c.parent-next.ensures
-    c.loop-at.invariant
+loop-at-preserved c = folds_more _ _ (omega (arith, c.loop-at-test.true)) c.subtree.ensures c.parent-next.ensures c.loop-at.invariant
 
 pub returns : goal.returns
 returns c = folds_all _ _ c.loop-at-test.false c.loop-at.invariant

@@ -28,7 +28,7 @@ loop-i-preserved c =
     (c.compress_lane-v.ensures
     ∙ ap₂ (λ (x y : List ℕ). compressed x y (a.n + k) 64 a.flags)
     (c.lane.ensures ∙ ap (lane_of a.cv) r)
-    (c.load-block.ensures ∙ ap (λ (j : ℕ). words_of 16 (take j (drop p a.bytes.now))) (add-sub_cancel_left p 64))))
+    (c.load.ensures ∙ ap (λ (j : ℕ). words_of 16 (take j (drop p a.bytes.now))) (add-sub_cancel_left p 64))))
     c.loop-i.invariant)
 
 pub loop-k-preserved : goal.loop-k-preserved

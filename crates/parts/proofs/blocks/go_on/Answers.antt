@@ -11,10 +11,10 @@ returns-then-total-n-eq1024 c =
     let n = c.chunks_before-n in
     let v = c.compress-v in
     let p =
-    push_rule a.key a.flag a.stacked (n.result + 1) v.result a.stack.now
+    push_rule a.keying.words a.keying.flag a.stacked (n.result + 1) v.result a.stack.now
     (pushes_at a.total a.stacked c.requires.2 n.ensures c.if-total-n-eq1024.true) c.requires.0
     v.type_inv.1.0.1 c.push-count.ensures in
-    gone_end a.key a.flag a.chain a.stack.now a.stacked a.total a.block.now c.requires.1 c.requires.2
+    gone_end a.keying.words a.keying.flag a.chain a.stack.now a.stacked a.total a.block.now c.requires.1 c.requires.2
     c.chunks_before-n.ensures
     c.opening-flags.ensures.0 c.load.ensures
     c.if-total-n-eq1024.true c.compress-v.ensures p.0 p.1 p.2
@@ -22,6 +22,6 @@ returns-then-total-n-eq1024 c =
 pub returns : goal.returns
 returns c =
     let a = c.args in
-    gone_on_lem a.key a.flag a.chain a.stack.now a.stacked a.total a.block.now c.requires.1 c.requires.2
+    gone_on_lem a.keying.words a.keying.flag a.chain a.stack.now a.stacked a.total a.block.now c.requires.1 c.requires.2
     c.chunks_before-n.ensures c.opening-flags.ensures.0 c.load-2.ensures
     c.if-total-n-eq1024.false c.requires.0 c.compress-next.ensures

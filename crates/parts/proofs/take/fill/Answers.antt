@@ -33,7 +33,7 @@ returns c =
     let p = c.requires in
     fills c.args.s c.args.part.now
     c.well_formed.0.1.1.1.1.1.1.1.1.1.0.1.0.1 p.0 p.1 p.2 p.3
-    c.start_of-start.ensures
-    c.flag_in-flag.ensures
+    c.keying_of-keying.ensures.words
+    c.keying_of-keying.ensures.flag
     c.block_with-full.ensures
     c.go_on-g.ensures c.take_on.ensures

@@ -17,8 +17,8 @@ pub returns : goal.returns
 returns c =
     let f = c.root_flag.ensures in
     ends c.args.s c.well_formed.0.1.1.1.1.1.1.1.1.1.0.1.0.1 c.requires
-    c.start_of-start.ensures
-    c.flag_in-flag.ensures
+    c.keying_of-keying.ensures.words
+    c.keying_of-keying.ensures.flag
     c.chunks_before-n.ensures
     c.opening.ensures.0 c.load.ensures
     c.well_formed.0.1.1.1.1.1.1.1.1.0.1.0.1 f.0 f.1

@@ -25,7 +25,7 @@ go_on-g-requires c =
 pub returns-then-total-ne0 : goal.returns-then-total-ne0
 returns-then-total-ne0 c =
     let a = c.args in (
-      went_block a.key a.flag a.chain a.stack.now a.stacked a.total a.part.now c.requires.1 c.requires.2
+      went_block a.keying.words a.keying.flag a.chain a.stack.now a.stacked a.total a.part.now c.requires.1 c.requires.2
           c.go_on-g.ensures,
       omega arith,
     )
@@ -40,10 +40,10 @@ returns-then-fits_four c =
     c.if-fits_four.true in
     let v = c.quad-v in
     let p =
-    push_rule a.key a.flag a.stacked (a.total / 1024 + 4) v.result a.stack.now
+    push_rule a.keying.words a.keying.flag a.stacked (a.total / 1024 + 4) v.result a.stack.now
     (ready_four a.stacked a.total (length a.part.now) c.requires.1 f.0 f.1) c.requires.0 v.type_inv.1.0.1
     c.push-count.ensures in (
-      went_four a.key a.flag a.chain a.stack.now a.stacked a.total a.part.now c.requires.1
+      went_four a.keying.words a.keying.flag a.chain a.stack.now a.stacked a.total a.part.now c.requires.1
           c.if-total-ne0.false f.0 f.1 f.2
           c.quad-v.ensures p.0 p.1 p.2,
       omega arith,
@@ -57,10 +57,10 @@ returns c =
     let a = c.args in
     let v = c.chunk-v in
     let p =
-    push_rule a.key a.flag a.stacked (a.total / 1024 + 1) v.result a.stack.now
+    push_rule a.keying.words a.keying.flag a.stacked (a.total / 1024 + 1) v.result a.stack.now
     (ready_one a.stacked a.total (length a.part.now) c.requires.1 (omega (arith, leb-false))) c.requires.0 v.type_inv.1.0.1
     c.push-count-2.ensures in (
-      went_chunk a.key a.flag a.chain a.stack.now a.stacked a.total a.part.now c.requires.1
+      went_chunk a.keying.words a.keying.flag a.chain a.stack.now a.stacked a.total a.part.now c.requires.1
           c.if-total-ne0.false (omega (arith, leb-false))
           c.chunk-v.ensures p.0 p.1 p.2,
       omega arith,

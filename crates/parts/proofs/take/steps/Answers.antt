@@ -7,7 +7,7 @@ use Rattle.parts.proofs.take.steps.Goals as goal
 pub loop-at-init : goal.loop-at-init
 loop-at-init c =
     let a = c.args in
-    went_none a.key a.flag a.chain a.stack.now a.stacked a.total a.part.now c.requires.1 c.requires.0 c.requires.2
+    went_none a.keying.words a.keying.flag a.chain a.stack.now a.stacked a.total a.part.now c.requires.1 c.requires.0 c.requires.2
 
 pub overflow_add-total : goal.overflow_add-total
 overflow_add-total c = omega (arith, c.loop-at.invariant.low, c.requires.1.limit)
@@ -16,9 +16,9 @@ pub step-s-requires : goal.step-s-requires
 step-s-requires c =
     let a = c.args in
     let w = c.loop-at.invariant in
-    let n = rest_length a.key a.flag a.chain a.stack.now a.stacked a.total a.part.now c.requires.1 w in (
+    let n = rest_length a.keying.words a.keying.flag a.chain a.stack.now a.stacked a.total a.part.now c.requires.1 w in (
       w.size,
-      went_ready a.key a.flag a.chain a.stack.now a.stacked a.total a.part.now c.requires.1 w,
+      went_ready a.keying.words a.keying.flag a.chain a.stack.now a.stacked a.total a.part.now c.requires.1 w,
       omega (arith, n, c.loop-at-test.true),
     )
 
@@ -26,7 +26,7 @@ step-s-requires c =
 again : goal.loop-at-preserved
 again c =
     let a = c.args in
-    went_more a.key a.flag a.chain a.stack.now a.stacked a.total a.part.now c.requires.1
+    went_more a.keying.words a.keying.flag a.chain a.stack.now a.stacked a.total a.part.now c.requires.1
     c.loop-at.invariant c.step-s.ensures.0
 
 pub overflow_add-at : goal.overflow_add-at

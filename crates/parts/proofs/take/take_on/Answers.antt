@@ -7,6 +7,6 @@ returns c =
     let a = c.args in
     let w = c.steps-w.ensures in
     takes_on a.s.keyed a.s.key a.s.chain a.s.stack a.s.stacked a.s.total a.part.now
-    c.start_of-start.ensures
-    c.flag_in-flag.ensures
+    c.keying_of-keying.ensures.words
+    c.keying_of-keying.ensures.flag
     w.0 w.1 c.clear.ensures c.block_with-block.ensures
