@@ -24,7 +24,7 @@ use Rattle.passage.specs.Request.{Request}
 use Rattle.passage.specs.Digests.{letter_tree}
 use Rattle.passage_writer.specs.Outcome.{our_passage, write_outcome}
 use Rattle.passage_checker.specs.Outcome.{check_outcome}
-use Rattle.difference.specs.declared.Finding.TheVariants.{Same, Records, Pair}
+use Rattle.difference.specs.Findings.{Same, Records, Pair}
 use Rattle.findings.specs.Outcome.{NamedOutcome, named_refused}
 use Rattle.passage_finder.specs.Outcome.{find_outcome}
 use Rattle.passage_promise.specs.Terms.{records_at, Accepted, Collide, Ends}

@@ -7,7 +7,7 @@ use Rattle.shape.specs.Difference.{Collision}
 use Rattle.letter_promise.specs.Terms.{record_at}
 use Rattle.passage_checker.specs.Outcome.{check_outcome}
 use Rattle.passage_records.specs.Outcome.{entry_outcome, entries_outcome}
-use Rattle.difference.specs.declared.Finding.TheVariants.{Same, Records, Pair}
+use Rattle.difference.specs.Findings.{Same, Records, Pair}
 use Rattle.findings.specs.Outcome.{NamedOutcome}
 
 -- a log's own records at these indexes

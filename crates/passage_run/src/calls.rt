@@ -1,8 +1,10 @@
 // The calls, and what they answer, printed. A row has: where eight parts start and how long they are, which are the words that begin its line, the
 // key, the indexes, the joined records, their lengths, the nodes, the root, the letter; the size; the room for a letter; which record is handed out;
 // how many places there are for indexes; how much of the finder's two buffers is lent.
-use crate::given::{at_most, front32, front64, indexes_in, lengths_in, mode_of, number, part};
+use crate::given::{at_most, first_of, indexes_in, lengths_in, mode_of, number, part};
 use findings::Named;
+use passage_records::Handed;
+use refusals::Refused;
 use runs::given::front;
 use runs::lines::{end_line, say, say_digest, say_number, say_numbers};
 
@@ -32,26 +34,31 @@ fn show_write(rt: &impl Print, mode: &[u8; 36], input: &[u8], row: &[u8]) {
     let w = passage_writer::write_passage(
         mode,
         number(row, 16),
-        front64(&indexes, number(row, 5) / 8),
+        first_of(&indexes, number(row, 5) / 8),
         part(input, row, 6),
-        front32(&lengths, number(row, 9) / 4),
+        first_of(&lengths, number(row, 9) / 4),
         part(input, row, 10),
         &mut out[..room],
     );
-    say_two(rt, b": write ", w.number, w.length as u64);
+    say_two(rt, b": write ", refusals::number(&w), w.unwrap_or(0) as u64);
     show_out(rt, &out, number(row, 17));
 }
 
 // The checker: the number, and how many records there are.
 fn show_check(rt: &impl Print, mode: &[u8; 36], size: u64, root: &[u8], letter: &[u8]) {
     let c = passage_checker::check(mode, size, root, letter);
-    say_two(rt, b" check ", c.number, c.count);
+    say_two(rt, b" check ", refusals::number(&c), c.unwrap_or(0));
 }
 
 // Record k: the number, its index and place; its length and first bytes as it is handed out.
 fn show_entry(rt: &impl Print, mode: &[u8; 36], size: u64, root: &[u8], letter: &[u8], k: u64) {
-    let e = passage_records::entry(mode, size, root, letter, k);
-    say_two(rt, b" entry ", e.number, e.index);
+    let answer = passage_records::entry(mode, size, root, letter, k);
+    let e = answer.unwrap_or(None).unwrap_or(Handed {
+        index: 0,
+        start: 0,
+        length: 0,
+    });
+    say_two(rt, b" entry ", refusals::number(&answer), e.index);
     word(rt, e.start as u64);
     word(rt, e.length as u64);
     let rec = passage_records::record_in(mode, size, root, letter, k);
@@ -64,7 +71,7 @@ fn show_list(rt: &impl Print, list: &[u64; 257], count: u64) {
     say_numbers(
         rt,
         b" ",
-        front64(list, std::num::wrapping_add_u64(count, 1)),
+        first_of(list, std::num::wrapping_add_u64(count, 1)),
     );
 }
 
@@ -90,18 +97,21 @@ fn show_entries(
         &mut starts,
         &mut lengths,
     );
-    say_two(rt, b" entries ", c.number, c.count);
-    show_list(rt, &indexes, c.count);
-    show_list(rt, &starts, c.count);
-    show_list(rt, &lengths, c.count);
+    let count = c.unwrap_or(0);
+    say_two(rt, b" entries ", refusals::number(&c), count);
+    show_list(rt, &indexes, count);
+    show_list(rt, &starts, count);
+    show_list(rt, &lengths, count);
 }
 
 // The number, what is found (1 for "same", 2 for "records", 3 for "pair"), the index; whether the two buffers differ then.
-fn show_found(rt: &impl Print, f: Named, first: &[u8; 80], second: &[u8; 80]) {
-    let finding = f.finding;
-    let found = difference::finding_number(finding);
-    say_two(rt, b" find ", f.number, found as u64);
-    word(rt, f.index);
+fn show_found(rt: &impl Print, f: Result<Named, Refused>, first: &[u8; 80], second: &[u8; 80]) {
+    let (found, index) = match f {
+        Ok(named) => (u32::from(named), named.index()),
+        Err(_) => (0, 0),
+    };
+    say_two(rt, b" find ", refusals::number(&f), found as u64);
+    word(rt, index);
     word(rt, wire::differ(first, second) as u64);
 }
 
@@ -117,7 +127,7 @@ fn show_find(rt: &impl Print, mode: &[u8; 36], input: &[u8], row: &[u8]) {
         number(row, 16),
         part(input, row, 10),
         part(input, row, 6),
-        front32(&lengths, number(row, 9) / 4),
+        first_of(&lengths, number(row, 9) / 4),
         part(input, row, 14),
         &mut first[..one],
         &mut second[..two],

@@ -8,10 +8,7 @@ use runs::given::front;
 pub(crate) fn at_most(n: u64, most: usize) -> usize
     ensures { result ≤ most }
 {
-    if n < most as u64 {
-        return n as usize;
-    }
-    most
+    n.min(most as u64) as usize
 }
 
 // A number of a row.
@@ -26,20 +23,21 @@ pub(crate) fn part<'a>(input: &'a [u8], row: &[u8], i: u8) -> &'a [u8] {
     front(rest, wire::read8(row, 8 * i as usize + 8) as usize)
 }
 
-// The mode: plain without a key.
+// The mode: plain without a key, and for one that is refused the keyed mode of zeros.
 pub(crate) fn mode_of(key: &[u8]) -> [u8; 36] {
-    if key.len() == 0 {
+    if key.is_empty() {
         return digest::plain();
     }
-    let m = digest::keyed(key);
-    m.mode
+    let mut zeros = [0u8; 36];
+    zeros[0] = 1;
+    digest::keyed(key).unwrap_or(zeros)
 }
 
-// The indexes in a part, eight bytes each.
+// The indexes in a part, eight bytes each. One function for these and the lengths would be handed the type, the width and the reader.
 pub(crate) fn indexes_in(part: &[u8]) -> [u64; 257] {
     let mut out = [0u64; 257];
-    for i in 0..257 {
-        out[i] = wire::read8(part, 8 * i);
+    for (i, x) in out.iter_mut().enumerate() {
+        *x = wire::read8(part, 8 * i);
     }
     out
 }
@@ -47,18 +45,13 @@ pub(crate) fn indexes_in(part: &[u8]) -> [u64; 257] {
 // The lengths in a part, four bytes each.
 pub(crate) fn lengths_in(part: &[u8]) -> [u32; 257] {
     let mut out = [0u32; 257];
-    for i in 0..257 {
-        out[i] = wire::read4(part, 4 * i);
+    for (i, x) in out.iter_mut().enumerate() {
+        *x = wire::read4(part, 4 * i);
     }
     out
 }
 
-// The first n indexes, or all where there are fewer.
-pub(crate) fn front64<'a>(list: &'a [u64], n: u64) -> &'a [u64] {
-    &list[..at_most(n, list.len())]
-}
-
-// The first n lengths, or all where there are fewer.
-pub(crate) fn front32<'a>(list: &'a [u32], n: u64) -> &'a [u32] {
+// The first n of a list, or all where there are fewer.
+pub(crate) fn first_of<'a, T>(list: &'a [T], n: u64) -> &'a [T] {
     &list[..at_most(n, list.len())]
 }

@@ -10,10 +10,8 @@ use std::io::Read;
 // One line for each row of numbers, up to the place that stands first.
 fn show_rows(rt: &impl Print, input: &[u8]) {
     let end = given::at_most(wire::read8(input, 0), input.len());
-    let mut at = 8;
-    while at < end {
+    for at in (8..end).step_by(176) {
         calls::show_row(rt, input, &input[at..]);
-        at += 176;
     }
 }
 
