@@ -12,7 +12,7 @@ use Rattle.parts.specs.declared.Parts.{Parts}
 use Rattle.parts.specs.Answers.{Added, added, add_outcome, Ended, ended_in, end_outcome}
 use Rattle.kept.specs.Kept.{value_or, Filled, filled, handed, or_kept}
 use Rattle.kept.proofs.Kept.{kept_done, kept_left}
-use Rattle.parts_c.specs.Parts.{PartsLeft, parts_left, add_call, end_call}
+use Rattle.parts_c.specs.Parts.{parts_left, add_call, end_call}
 
 -- a state that there is goes behind the pointer, and a refusal leaves what was there
 state_put : (s : Parts) (r : Result Parts Refused) → parts_left (number_in r) (value_or s r) ≡ parts_left (added s r).number (added s r).state

@@ -8,10 +8,10 @@ use lib.Seq.{take-take, drop-drop, length-take-le}
 use Rattle.compression.specs.Compression.{compressed}
 use Rattle.words.specs.Words.{words_of}
 use Rattle.chunks.specs.Chunks.{start_flag, chained, before, chunked}
-use Rattle.chunks.specs.Lanes.{lane_of, laned, chunk_in}
+use Rattle.chunks.specs.Lanes.{laned, chunk_in}
 use Rattle.chunks.specs.Steps.{compressed4}
 use Rattle.chunks.proofs.Lengths.{chained_length}
-use Rattle.chunks.proofs.Laned.{laned_same, lane_laned, lane_length}
+use Rattle.chunks.proofs.Laned.{laned_same, lane_laned}
 use Rattle.chunks.proofs.Parts.{drop_take}
 
 -- ---- A block of chunk k, found in the whole

@@ -1,5 +1,5 @@
 -- The two refusals, a part of no bytes, and a part.
-use Rattle.std.proofs.Common.{refl, sym, ap, ◌∙◌, arith}
+use Rattle.std.proofs.Common.{sym, ap, ◌∙◌, arith}
 use Rattle.std.proofs.lemmas.Result.{err_from_is_err_and}
 use Rattle.refusals.specs.Numbers.{number_in}
 use Rattle.refusals.proofs.Laws.{number_above}

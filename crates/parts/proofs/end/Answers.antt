@@ -1,5 +1,5 @@
 -- The refusal, and the digest.
-use Rattle.std.proofs.Common.{refl, sym, ap, ◌∙◌}
+use Rattle.std.proofs.Common.{sym, ap, ◌∙◌}
 use Rattle.std.proofs.lemmas.Result.{err_from_is_err_and}
 use Rattle.refusals.specs.Numbers.{number_in}
 use Rattle.refusals.proofs.Laws.{number_above}

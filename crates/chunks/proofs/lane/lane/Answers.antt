@@ -1,6 +1,5 @@
 -- A loop that stores word after word fills lane k.
 use mathlib.Core.Path.{refl}
-use Prim.Native.Nat.{◌-◌}
 use Rattle.chunks.specs.Lanes.{lane_of}
 use Rattle.words.proofs.Fill.{fills_none, fills_more, fills_all}
 use Rattle.chunks.proofs.lane.lane.Goals as goal

@@ -1,5 +1,5 @@
 -- Four chunks go on side by side, block after block: `Four` has the four lists of chaining words at each block.
-use Rattle.std.proofs.Common.{arith, rules}
+use Rattle.std.proofs.Common.{rules}
 use Rattle.chunks.proofs.lane.Four.{chains4_none, chains4_more, chains4_all}
 use Rattle.chunks.proofs.lane.whole4.Goals as goal
 
