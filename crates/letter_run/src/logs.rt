@@ -1,7 +1,7 @@
 // The logs that letters are of, what is written and checked of them, and how an answer is printed.
 use letter::Fields;
 use refusals::Refused;
-use runs::given::{fill, front, length_of, record_of};
+use runs::given::{filled, front, length_of, record_of};
 use runs::lines::say_numbers;
 
 // Record k appended to a log of at most 20; the new size.
@@ -42,9 +42,7 @@ pub(crate) fn letter_of(size: u64, index: usize, nodes: &[u8; 1216], out: &mut [
 
 // An output before a letter is written.
 pub(crate) fn output() -> [u8; 16640] {
-    let mut out = [0u8; 16640];
-    fill(9, &mut out);
-    out
+    filled(9)
 }
 
 // 1 where a byte of an output behind the first n has changed, else 0.
