@@ -16,8 +16,8 @@ unfolding foreign
 foreign_by digest node i rec e f = f ∙ ap (λ (x : List ℕ). differ x (leaf_in node i)) e
 
 -- the leaf at its place lies below the size
-pub foreign_local : (digest : List ℕ → List ℕ) (f g : ℕ → List ℕ) (n i : ℕ) (rec : List ℕ) → i < n → n ≤ 2 ^ 32 → ((p : ℕ) → p < size_of n → f p ≡ g p)
-    → foreign digest f i rec ≡ foreign digest g i rec
+pub foreign_local : (digest : List ℕ → List ℕ) (f g : ℕ → List ℕ) (n i : ℕ) (rec : List ℕ) → i < n → n ≤ 2 ^ 32
+    → ((p : ℕ) → p < size_of n → f p ≡ g p) → foreign digest f i rec ≡ foreign digest g i rec
 unfolding foreign
 foreign_local digest f g n i rec p q e =
     let a : (position_answer i).value ≡ size_of i = ap (λ (x : Answer). x.value) (position_answer_lem i (omega arith)) in

@@ -53,8 +53,8 @@ pub extern "C" fn keeper_letter_check(
     }
 }
 
-// A letter compared with the log's own nodes and the record that the log has there: what is found, and for a pair the log's input into the first 64 bytes
-// of one buffer, the letter's into those of the other.
+// A letter compared with the log's own nodes and the record that the log has there: what is found, and for a pair the log's input into the first 64
+// bytes of one buffer, the letter's into those of the other.
 #[unsafe(no_mangle)]
 pub extern "C" fn keeper_find(
     mode: &[u8; 36],

@@ -127,7 +127,8 @@ module _ {h n i s at room half : ℕ} (f : Above h n i s at room half) where
           (omega (arith, f.fits.0), l, omega (arith, halves.is), omega (arith, halves, f.fits.3), omega (arith, left_more, f.fits.4))
 
       pub left_put : (mode bs d : List ℕ) {next : ℕ} {side before last : List ℕ} → length d ≡ room → Put mode bs (h - 1) half i s at d next before
-          → side ≡ fold_from (digest_in mode) bs (n - half) (middle s half) → last ≡ written next side before → Put mode bs h n i s at d (next + 32) last
+          → side ≡ fold_from (digest_in mode) bs (n - half) (middle s half) → last ≡ written next side before
+          → Put mode bs h n i s at d (next + 32) last
       left_put mode bs d {side = side} long p es el =
           let ps : List ℕ = peaks_in (suc (h - 1)) (n - half) (middle s half) in
           let e : side ≡ fold (digest_in mode) (node_in bs) ps =
@@ -158,7 +159,8 @@ module _ {h n i s at room half : ℕ} (f : Above h n i s at room half) where
         within_same : positions_in (suc h) n i s ≡ to_right h n i s half ++ (alone (middle s half - 1) ∷ [])
         within_same =
             positions_at (positions_right (h - 1) n i s (omega (arith, halves.double)) (omega (arith, halves.is)) f.fits.1)
-            ∙ ap₂ {C = List (List ℕ)} (λ (x y : ℕ). positions_in (suc (h - 1)) (n - x) (i - x) y ++ (alone (top (h - 1) s) ∷ [])) (sym halves.is) mid_is
+            ∙ ap₂ {C = List (List ℕ)} (λ (x y : ℕ). positions_in (suc (h - 1)) (n - x) (i - x) y ++ (alone (top (h - 1) s) ∷ []))
+            (sym halves.is) mid_is
             ∙ ap {B = List (List ℕ)} (λ (x : ℕ). to_right h n i s half ++ (alone x ∷ [])) top_is
 
         pub within_room : Room (h - 1) (n - half) (i - half) (middle s half) at room

@@ -47,7 +47,8 @@ module _ (mode bs d : List ℕ) (at n i : ℕ) where
           let k : 2 ^ h ≤ 2 ^ 32 = pow_mono {i = h} {j = 32} (omega arith) in
           (omega arith, p, rw e (height_holds n), omega arith, omega (arith, counted))
 
-      pub written_all : {next : ℕ} {last : List ℕ} → Put mode bs h n i 0 at d next last → last ≡ written at (joined (items_of (digest_in mode) (node_in bs) n i)) d
+      pub written_all : {next : ℕ} {last : List ℕ} → Put mode bs h n i 0 at d next last
+          → last ≡ written at (joined (items_of (digest_in mode) (node_in bs) n i)) d
       written_all r =
           let s : items_from (digest_in mode) (node_in bs) h n i 0 ≡ items_of (digest_in mode) (node_in bs) n i =
           ap (λ (k : ℕ). items_from (digest_in mode) (node_in bs) k n i 0) e ∙ sym (items_of_lem (digest_in mode) (node_in bs) n i p q) in

@@ -50,31 +50,36 @@ returns-in_err-f c =
     (fields_refuse _ _ _ _ k.number c.if-root-ne32.false (fielded _ _ _ k c.take_apart.ensures) c.in_err-f.was)
 
 pub overflow_add-end : goal.overflow_add-end
-overflow_add-end c = let t = taken c.args.size c.args.letter.now (counts_leaves c.leaf_count.ensures c.in_ok-n.was) c.take_apart.ensures c.in_ok-f.was in omega (arith, t.start, t.long, t.short)
+overflow_add-end c =
+    let t = taken _ _ (counts_leaves c.leaf_count.ensures c.in_ok-n.was) c.take_apart.ensures c.in_ok-f.was in
+    omega (arith, t.start, t.long, t.short)
 
 pub slice_bounds-root_of-end : goal.slice_bounds-root_of-end
-slice_bounds-root_of-end c = let t = taken c.args.size c.args.letter.now (counts_leaves c.leaf_count.ensures c.in_ok-n.was) c.take_apart.ensures c.in_ok-f.was in omega (arith, t.exact)
+slice_bounds-root_of-end c =
+    let t = taken _ _ (counts_leaves c.leaf_count.ensures c.in_ok-n.was) c.take_apart.ensures c.in_ok-f.was in
+    omega (arith, t.exact)
 
 pub slice_bounds-root_of-count-2 : goal.slice_bounds-root_of-count-2
-slice_bounds-root_of-count-2 c = let t = taken c.args.size c.args.letter.now (counts_leaves c.leaf_count.ensures c.in_ok-n.was) c.take_apart.ensures c.in_ok-f.was in omega (arith, t.exact)
+slice_bounds-root_of-count-2 c =
+    let t = taken _ _ (counts_leaves c.leaf_count.ensures c.in_ok-n.was) c.take_apart.ensures c.in_ok-f.was in
+    omega (arith, t.exact)
 
 pub slice_bounds-root_of-start-2 : goal.slice_bounds-root_of-start-2
-slice_bounds-root_of-start-2 c = let t = taken c.args.size c.args.letter.now (counts_leaves c.leaf_count.ensures c.in_ok-n.was) c.take_apart.ensures c.in_ok-f.was in omega (arith, t.exact)
+slice_bounds-root_of-start-2 c =
+    let t = taken _ _ (counts_leaves c.leaf_count.ensures c.in_ok-n.was) c.take_apart.ensures c.in_ok-f.was in
+    omega (arith, t.exact)
 
+-- the root worked out is that of the letter
 pub returns-then-differ : goal.returns-then-differ
 returns-then-differ c =
-    let a = c.args in
     let k = counts_leaves c.leaf_count.ensures c.in_ok-n.was in
-    let t = taken a.size a.letter.now k c.take_apart.ensures c.in_ok-f.was in
-    root_refuses (digest_in a.mode.now) a.size a.root.now a.letter.now k.number c.if-root-ne32.false t {made = c.root_of-made.result.bytes}
-    (worked_slices a.size (leaves a.size) a.letter.now _ t (digest_in a.mode.now) (rw k.value c.root_of-made.ensures))
-    (λ z. omega (arith, ap bit c.if-differ.true, z))
+    let t = taken c.args.size c.args.letter.now k c.take_apart.ensures c.in_ok-f.was in
+    root_refuses (digest_in c.args.mode.now) _ _ _ k.number c.if-root-ne32.false t {made = c.root_of-made.result.bytes}
+    (worked_slices _ _ _ _ t (digest_in c.args.mode.now) (rw k.value c.root_of-made.ensures)) (λ z. omega (arith, ap bit c.if-differ.true, z))
 
 pub returns : goal.returns
 returns c =
-    let a = c.args in
     let k = counts_leaves c.leaf_count.ensures c.in_ok-n.was in
-    let t = taken a.size a.letter.now k c.take_apart.ensures c.in_ok-f.was in
-    all_pass (digest_in a.mode.now) a.size a.root.now a.letter.now k.number c.if-root-ne32.false t {made = c.root_of-made.result.bytes}
-    (worked_slices a.size (leaves a.size) a.letter.now _ t (digest_in a.mode.now) (rw k.value c.root_of-made.ensures))
-    (omega (arith, ap bit c.if-differ.false))
+    let t = taken c.args.size c.args.letter.now k c.take_apart.ensures c.in_ok-f.was in
+    all_pass (digest_in c.args.mode.now) _ _ _ k.number c.if-root-ne32.false t {made = c.root_of-made.result.bytes}
+    (worked_slices _ _ _ _ t (digest_in c.args.mode.now) (rw k.value c.root_of-made.ensures)) (omega (arith, ap bit c.if-differ.false))
