@@ -112,7 +112,7 @@ full room n k ks h =
     let e : 2 ≡ first_number (one_order room (suc n) k) = first_is 2 _ (search rules) in
     ap (λ (x : ℕ). or_else x (foreseen room (suc n) ks)) (sym e) ∙ or_here 2 (foreseen room (suc n) ks) (λ z. omega arith)
 
-foreseen_full : (room m n : ℕ) (ks : List ℕ) → 2 ^ 32 ≤ m → 2 ^ 32 ≤ n → foreseen room m ks ≡ foreseen room n ks
+pub foreseen_full : (room m n : ℕ) (ks : List ℕ) → 2 ^ 32 ≤ m → 2 ^ 32 ≤ n → foreseen room m ks ≡ foreseen room n ks
 unfolding foreseen
 foreseen_full room m n [] g h = refl
 foreseen_full room m n (k ∷ ks) g h = full room m k ks g ∙ sym (full room n k ks h)

@@ -2,13 +2,13 @@
 use mathlib.Core.Path.{◌∙◌, ap}
 use Prim.Native.Nat.{ℕ}
 use Rattle.kept.specs.Kept.{filled}
-use Rattle.keeper.proofs.Laws.{root_refused_lem, root_handed}
+use Rattle.keeper.proofs.Laws.{root_refused_lem, root_done_lem}
 use Rattle.keeper.proofs.keeper_root.Goals as goal
 
 pub returns-in-Ok : goal.returns-in-Ok
 returns-in-Ok c =
     let a = c.args in
-    root_handed a.mode.now a.size a.nodes.now a.out.now c.root-answer.ensures c.in-Ok.is c.hand.ensures
+    root_done_lem a.mode.now a.size a.nodes.now a.out.now c.root-answer.ensures c.in-Ok.is c.hand.ensures
 
 pub returns-in-Err : goal.returns-in-Err
 returns-in-Err c =
