@@ -1,26 +1,18 @@
--- How the calls that write and check a passage letter follow from the calls below.
+-- How the calls that check a passage letter follow from the calls below.
 use mathlib.Core.Path.{◌≡◌, sym, ap, ◌∙◌}
 use mathlib.Core.List.{List}
 use Prim.Native.Nat.{ℕ, ◌<◌}
 use native.Mathlib.Omega.{arith}
 use Rattle.std.specs.Prelude.{Result, Ok, Err}
 use Rattle.refusals.specs.declared.Refused.{Refused}
-use Rattle.refusals.specs.Numbers.{number_of, number_in}
+use Rattle.refusals.specs.Numbers.{number_in}
 use Rattle.refusals.proofs.Laws.{number_above}
 use Rattle.digest.specs.Digest.{digest_in}
-use Rattle.wire.specs.Writers.{WriteOutcome, wrote}
-use Rattle.kept.specs.Kept.{value_or, write_left, write_call}
+use Rattle.kept.specs.Kept.{value_or}
 use Rattle.kept.proofs.Kept.{kept_done, kept_left}
-use Rattle.kept.proofs.Writers.{write_refused_lem, write_done_lem}
 use Rattle.passage_checker.specs.Outcome.{CheckOutcome, checked, check_outcome}
 use Rattle.passage_records.specs.Outcome.{EntryOutcome, entry_refused, entry_outcome, EntriesOutcome, listed, entries_outcome}
 use Rattle.passage_c.specs.Calls.{check_left, check_call, entry_left, entry_call, entries_left, entries_call}
-
--- a letter written: its length goes behind the pointer, and a refusal leaves what was there
-pub write_put : (outcome : WriteOutcome) (old : ℕ) (x : List ℕ) (r : Result ℕ Refused) → wrote r x ≡ outcome
-    → write_left (number_in r) (value_or old r) x ≡ write_call outcome old
-write_put outcome old x (Ok n) e = write_done_lem outcome old x n e
-write_put outcome old x (Err why) e = write_refused_lem outcome old x (number_of why) e (λ z. omega (arith, number_above why))
 
 module _ (mode : List ℕ) (size : ℕ) (root letter : List ℕ) where
   -- a check: the number of records

@@ -10,4 +10,5 @@ use Rattle.passage_checker.specs.Outcome.{CheckOutcome, check_refused, check_cou
 pub check_only : (outcome : CheckOutcome) {r s : Result ℕ Refused} → checked r ≡ outcome → checked s ≡ outcome → r ≡ s
 check_only =
     determined checked
-    (outcome_apart check_refused check_counted (λ (o : CheckOutcome). o.number) (λ n. refl) (λ k. refl) (λ k l e. ap (λ (o : CheckOutcome). o.count) e))
+    (outcome_apart check_refused check_counted (λ (o : CheckOutcome). o.number) (λ n. refl) (λ k. refl)
+    (λ k l e. ap (λ (o : CheckOutcome). o.count) e))

@@ -46,7 +46,8 @@ module _ (digest : List ℕ → List ℕ) (size : ℕ) (root letter : List ℕ) 
         (fields_done letter) ((λ z. omega arith), (wide, tt)) f
 
     -- a field refuses
-    pub fields_refuse : {k : ℕ} → 0 < k → fields_refused k ≡ fields_outcome size (leaves size) letter → fields_refused k ≡ pass_outcome digest size root letter
+    pub fields_refuse : {k : ℕ} → 0 < k → fields_refused k ≡ fields_outcome size (leaves size) letter
+        → fields_refused k ≡ pass_outcome digest size root letter
     unfolding from7
     fields_refuse {k} z e =
         let n : k ≡ first_number (fields_order size (leaves size) letter) = apart_number size (leaves size) letter e in

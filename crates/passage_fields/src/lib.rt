@@ -14,8 +14,8 @@ use passage::count::digest_count;
 use passage::{FRAME, HEAD, MOST_RECORDS};
 use refusals::Refused;
 
-// A letter taken apart: how many records there are, the place behind them, their indexes, and the places where their 12 bytes begin, with zeros behind
-// these.
+// A letter taken apart: how many records there are, the place behind them, their indexes, and the places where their 12 bytes begin, with zeros
+// behind these.
 #[derive(Drop)]
 pub struct Fields {
     pub count: usize,

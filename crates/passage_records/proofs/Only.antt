@@ -9,8 +9,8 @@ use Rattle.refusals.proofs.Laws.{number_above, same_number}
 use Rattle.passage_records.specs.declared.Handed.{Handed}
 use Rattle.passage_records.specs.Outcome.{EntryOutcome, handed, There, EntriesOutcome, listed}
 
-pub entry_only : (outcome : EntryOutcome) (count k : ℕ) (r s : Result (Option Handed) Refused) → handed r ≡ outcome → There count k r → handed s ≡ outcome
-    → There count k s → r ≡ s
+pub entry_only : (outcome : EntryOutcome) (count k : ℕ) (r s : Result (Option Handed) Refused) → handed r ≡ outcome → There count k r
+    → handed s ≡ outcome → There count k s → r ≡ s
 entry_only outcome count k (Ok (Some a)) (Ok (Some b)) e p f q =
     let g = e ∙ sym f in
     ap (λ (h : Handed). Ok (Some h)) (λ i. record { index = (g i).index; start = (g i).start; length = (g i).length })

@@ -35,7 +35,8 @@ returns-then-root-ne32 c =
     width_refuses (digest_in a.mode.now) a.size a.root.now a.letter.now k.number c.if-root-ne32.true refl
 
 -- the letter is taken apart but for its exact length, for the leaf count of the size
-front : (size : ℕ) (letter : List ℕ) {n : ℕ} {o : FieldsOutcome} → Counts size n → o ≡ front_outcome size n letter → o ≡ front_outcome size (leaves size) letter
+front : (size : ℕ) (letter : List ℕ) {n : ℕ} {o : FieldsOutcome} → Counts size n → o ≡ front_outcome size n letter
+    → o ≡ front_outcome size (leaves size) letter
 front size letter k e = e ∙ ap (λ (n : ℕ). front_outcome size n letter) (sym k.value)
 
 pub returns-in_err-f : goal.returns-in_err-f

@@ -37,20 +37,23 @@ returns-in_default c =
 
 -- it ends within the letter
 inside : (digest : List ℕ → List ℕ) (size : ℕ) (root letter : List ℕ) (k : ℕ) {h : Handed}
-    → record { number = 0; index = h.index; start = h.start; length = h.length } ≡ entry_outcome digest size root letter k → h.start + h.length ≤ length letter
+    → record { number = 0; index = h.index; start = h.start; length = h.length } ≡ entry_outcome digest size root letter k
+    → h.start + h.length ≤ length letter
 inside digest size root letter k e =
     rw (ap (λ (o : EntryOutcome). o.start) e, ap (λ (o : EntryOutcome). o.length) e) (entry_within digest size root letter k)
 
 pub overflow_add-result : goal.overflow_add-result
 overflow_add-result c =
     let a = c.args in
-    let w = inside (digest_in a.mode.now) a.size a.root.now a.letter.now a.k (answered c.entry.result c.entry.ensures.part (sym c.unwrap_or.ensures ∙ c.in-Some.is)) in
+    let w = inside (digest_in a.mode.now) a.size a.root.now a.letter.now a.k
+    (answered c.entry.result c.entry.ensures.part (sym c.unwrap_or.ensures ∙ c.in-Some.is)) in
     search rules
 
 pub slice_bounds-result-end-2 : goal.slice_bounds-result-end-2
 slice_bounds-result-end-2 c =
     let a = c.args in
-    let w = inside (digest_in a.mode.now) a.size a.root.now a.letter.now a.k (answered c.entry.result c.entry.ensures.part (sym c.unwrap_or.ensures ∙ c.in-Some.is)) in
+    let w = inside (digest_in a.mode.now) a.size a.root.now a.letter.now a.k
+    (answered c.entry.result c.entry.ensures.part (sym c.unwrap_or.ensures ∙ c.in-Some.is)) in
     omega arith
 
 pub returns : goal.returns
