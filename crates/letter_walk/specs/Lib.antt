@@ -1,3 +1,4 @@
 -- What a walk answers, and what its own steps are called.
+pub mod Room
 pub mod Outcome
 pub mod Steps

@@ -4,19 +4,20 @@ ghost use Rattle.digest.specs.Digest.{digest_in};
 ghost use Rattle.wire.specs.Slices.{bit};
 ghost use Rattle.shape.specs.Seen.{broken_in};
 ghost use Rattle.nodes.specs.Nodes.{node_in};
-ghost use Rattle.letter_walk.specs.Steps.{top_broken, Forkable, Walkable};
+ghost use Rattle.letter_walk.specs.Steps.{top_broken, Walkable};
+
+use crate::Fork;
 
 // Whether the node on top of a fork isn't the digest of its two children. Above the peaks no node stands there.
-fn top_broken(mode: &[u8; 36], nodes: &[u8], half: u64, rest: u64, mid: u64) -> bool
-    requires { Forkable half mid 0 }
-    ensures { bit result ≡ top_broken (digest_in mode.now) nodes.now half rest mid }
+fn top_broken(mode: &[u8; 36], nodes: &[u8], f: Fork) -> bool
+    ensures { bit result ≡ top_broken (digest_in mode.now) nodes.now f.half f.rest f.mid }
 {
-    if rest != half {
+    if f.rest != f.half {
         return false;
     }
-    let left = nodes::node_at(nodes, mid - 1);
-    let right = nodes::node_at(nodes, mid + (2 * half - 2));
-    let top = nodes::node_at(nodes, mid + (2 * half - 1));
+    let left = nodes::node_at(nodes, f.mid - 1);
+    let right = nodes::node_at(nodes, f.mid + (2 * f.half - 2));
+    let top = nodes::node_at(nodes, f.mid + (2 * f.half - 1));
     inputs::digests_differ(top, digest::digest_of_pair(mode, left, right))
 }
 
@@ -35,7 +36,7 @@ pub(crate) fn on_way(mode: &[u8; 36], nodes: &[u8], h: u32, n: u64, i: u64, s: u
     }
     let mid = s + (2 * half - 1);
     let rest = n - half;
-    if top_broken(mode, nodes, half, rest, mid) {
+    if top_broken(mode, nodes, Fork { half, rest, mid }) {
         return true;
     }
     if i < half {

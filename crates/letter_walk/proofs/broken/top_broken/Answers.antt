@@ -7,8 +7,8 @@ use Rattle.wire.specs.Slices.{differ}
 use Rattle.letter_walk.proofs.broken.Breaking.{top_above, top_within}
 use Rattle.letter_walk.proofs.broken.top_broken.Goals as goal
 
-pub returns-then-rest-half : goal.returns-then-rest-half
-returns-then-rest-half c = let a = c.args in sym (top_above (digest_in a.mode.now) a.nodes.now a.half a.rest a.mid c.if-rest-half.true)
+pub returns-then-f : goal.returns-then-f
+returns-then-f c = let a = c.args in sym (top_above (digest_in a.mode.now) a.nodes.now a.f.half a.f.rest a.f.mid c.if-f.true)
 
 pub returns : goal.returns
 returns c =
@@ -16,4 +16,4 @@ returns c =
     let children = ap₂ (λ (x y : List ℕ). x ++ y) c.node_at-left.ensures c.node_at-right.ensures in
     c.digests_differ.ensures
     ∙ ap₂ differ c.node_at-top.ensures (c.digest_of_pair.ensures ∙ ap (digest_in a.mode.now) children)
-    ∙ sym (top_within (digest_in a.mode.now) a.nodes.now a.half a.rest a.mid c.if-rest-half.false)
+    ∙ sym (top_within (digest_in a.mode.now) a.nodes.now a.f.half a.f.rest a.f.mid c.if-f.false)

@@ -4,17 +4,17 @@ use borrow.Author.Tests.{eq-eqb, ne_eqb}
 use Rattle.letter_walk.specs.Steps.{crown}
 use Rattle.letter_walk.proofs.walk.crown.Goals as goal
 
-pub returns-then-rest-half : goal.returns-then-rest-half
+pub returns-then-f : goal.returns-then-f
 unfolding crown
-returns-then-rest-half c = let a = c.args in c.node_at.ensures ∙ sym (rw (eq-eqb a.rest a.half c.if-rest-half.true, crown))
+returns-then-f c = let a = c.args in c.node_at.ensures ∙ sym (rw (eq-eqb a.f.rest a.f.half c.if-f.true, crown))
 
 pub returns-then-apart : goal.returns-then-apart
 unfolding crown
 returns-then-apart c =
     let a = c.args in
-    c.digest_of_pair.ensures ∙ sym (rw (ne_eqb a.rest a.half c.if-rest-half.false, crown))
+    c.digest_of_pair.ensures ∙ sym (rw (ne_eqb a.f.rest a.f.half c.if-f.false, crown))
 
 pub returns : goal.returns
 unfolding crown
 returns c =
-    c.requires.1 c.if-apart.false ∙ sym (rw (ne_eqb c.args.rest c.args.half c.if-rest-half.false, crown))
+    c.requires c.if-apart.false ∙ sym (rw (ne_eqb c.args.f.rest c.args.f.half c.if-f.false, crown))

@@ -4,15 +4,11 @@ use Rattle.digest.specs.Digest.{digest_in}
 use Rattle.wire.specs.Slices.{bit}
 use Rattle.wire.proofs.Differences.{same_of_differ}
 use Rattle.inputs.specs.Inputs.{bytes_of}
-use borrow.Author.Rules.{rules}
 use Rattle.letter_walk.proofs.walk.fork.Goals as goal
 
 pub crown-log-requires : goal.crown-log-requires
 crown-log-requires c =
     let a = c.args in
-    let p = c.requires in (
-      record { some = p.some; few = p.few; past = p.past; near = p.near; used = search rules },
-      λ z.
-          c.digest_of_pair-letter.ensures
-          ∙ ap (digest_in a.mode.now) (sym (same_of_differ (bytes_of a.ours) (bytes_of a.theirs) (sym c.inputs_differ-apart.ensures ∙ ap bit z))),
-    )
+    λ z.
+    c.digest_of_pair-letter.ensures
+    ∙ ap (digest_in a.mode.now) (sym (same_of_differ (bytes_of a.ours) (bytes_of a.theirs) (sym c.inputs_differ-apart.ensures ∙ ap bit z)))
