@@ -24,14 +24,6 @@ top_broken digest bs half rest mid =
       | false ↦ 0
     ]
 
--- no sum wraps
-pub record Forkable (half mid taken : ℕ) : Type 0 where
-  pub some : 0 < half
-  pub few : half ≤ 2 ^ 32
-  pub past : 0 < mid
-  pub near : mid ≤ 2 ^ 34
-  pub used : taken ≤ 64
-
 -- one fork above the walk `low`: t stands on top of it
 pub record OneFork (digest : List ℕ → List ℕ) (low : Trail) (t : List ℕ) (ours theirs : Input) (w : Trail) : Type 0 where
   pub used : w.used ≡ low.used + 1

@@ -4,19 +4,19 @@ ghost use Rattle.digest.specs.Digest.{digest_in};
 ghost use Rattle.wire.specs.Slices.{bit};
 ghost use Rattle.shape.specs.Seen.{broken_in};
 ghost use Rattle.nodes.specs.Nodes.{node_in};
-ghost use Rattle.letter_walk.specs.Steps.{top_broken, Forkable, Walkable};
+ghost use Rattle.letter_walk.specs.Steps.{top_broken, Walkable};
+
+use inputs::fork::Fork;
 
 // Whether the node on top of a fork isn't the digest of its two children. Above the peaks no node stands there.
-fn top_broken(mode: &[u8; 36], nodes: &[u8], half: u64, rest: u64, mid: u64) -> bool
-    requires { Forkable half mid 0 }
-    ensures { bit result ≡ top_broken (digest_in mode.now) nodes.now half rest mid }
+fn top_broken(mode: &[u8; 36], nodes: &[u8], at: Fork) -> bool
+    ensures { bit result ≡ top_broken (digest_in mode.now) nodes.now at.half at.rest at.mid }
 {
-    if rest != half {
+    let Some(top) = at.top(nodes) else {
         return false;
-    }
-    let left = nodes::node_at(nodes, mid - 1);
-    let right = nodes::node_at(nodes, mid + (2 * half - 2));
-    let top = nodes::node_at(nodes, mid + (2 * half - 1));
+    };
+    let left = nodes::node_at(nodes, at.mid - 1);
+    let right = nodes::node_at(nodes, at.mid + (2 * at.half - 2));
     inputs::digests_differ(top, digest::digest_of_pair(mode, left, right))
 }
 
@@ -35,7 +35,8 @@ pub(crate) fn on_way(mode: &[u8; 36], nodes: &[u8], h: u32, n: u64, i: u64, s: u
     }
     let mid = s + (2 * half - 1);
     let rest = n - half;
-    if top_broken(mode, nodes, half, rest, mid) {
+    let at = Fork { half, rest, mid };
+    if top_broken(mode, nodes, at) {
         return true;
     }
     if i < half {

@@ -23,7 +23,7 @@ pub struct Trail {
     pub difference: Option<Unequal>,
 }
 
-// Nothing found.
+// Nothing found. The Trail of `passage_walk` has other fields, and so its own such answer.
 fn nothing() -> Trail
     ensures { walked_off result ≡ walk_none }
 {

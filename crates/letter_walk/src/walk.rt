@@ -1,55 +1,41 @@
 // The walk from the root of the folded tree down to a leaf, the log's side beside the letter's.
-ghost use Rattle.std.specs.Prelude.{◌≡◌, false};
+ghost use Rattle.std.specs.Prelude.{◌≡◌, ◌≤◌};
 ghost use Rattle.digest.specs.Digest.{digest_in};
-ghost use Rattle.inputs.specs.Inputs.{bytes_of};
-ghost use Rattle.letter_walk.specs.Steps.{crown, Forkable, OneFork, Walkable, Walked};
+ghost use Rattle.inputs.specs.Inputs.{bytes_of, beside};
+ghost use Rattle.letter_walk.specs.Steps.{crown, OneFork, Walkable, Walked};
 
 use crate::Trail;
 use digest::Digest;
 use inputs::Input;
+use inputs::fork::Fork;
 
-// What stands on top of a fork whose right side begins at position mid: within a peak the node, above the peaks the digest of the log's input, which
-// is the letter's where the two inputs are the same.
+// What stands on top of a fork: within a peak the node, above the peaks the digest of the log's input, the letter's unless the two are apart.
 fn crown(
     mode: &[u8; 36],
     nodes: &[u8],
-    half: u64,
-    rest: u64,
-    mid: u64,
+    at: Fork,
     ours: Input,
     apart: bool,
     letter: Digest,
 ) -> Digest
-    requires { Forkable half mid 0 × (apart ≡ false → letter.bytes ≡ digest_in mode.now (bytes_of ours)) }
-    ensures { result.bytes ≡ crown nodes.now half rest mid (digest_in mode.now (bytes_of ours)) }
+    ensures { result.bytes ≡ crown nodes.now at.half at.rest at.mid (beside apart (digest_in mode.now (bytes_of ours)) letter.bytes) }
 {
-    if rest == half {
-        return nodes::node_at(nodes, mid + (2 * half - 1));
+    match at.top(nodes) {
+        Some(node) => node,
+        None => inputs::digest_beside(mode, ours, apart, letter),
     }
-    if apart {
-        return digest::digest_of_pair(mode, ours.left, ours.right);
-    }
-    letter
 }
 
 // One fork above a walk: what the log hashes there and what the letter hashes.
-fn fork(
-    mode: &[u8; 36],
-    nodes: &[u8],
-    half: u64,
-    rest: u64,
-    mid: u64,
-    low: Trail,
-    ours: Input,
-    theirs: Input,
-) -> Trail
-    requires { Forkable half mid low.used }
-    ensures { OneFork (digest_in mode.now) low (crown nodes.now half rest mid (digest_in mode.now (bytes_of ours))) ours theirs result }
+fn fork(mode: &[u8; 36], nodes: &[u8], at: Fork, low: Trail, ours: Input, theirs: Input) -> Trail
+    requires { low.used ≤ 64 }
+    ensures { OneFork (digest_in mode.now) low (crown nodes.now at.half at.rest at.mid (digest_in mode.now (bytes_of ours))) ours theirs
+        result }
 {
     let apart = inputs::inputs_differ(ours, theirs);
     let highest = inputs::higher(low.difference, apart, ours, theirs);
     let letter = digest::digest_of_pair(mode, theirs.left, theirs.right);
-    let log = crown(mode, nodes, half, rest, mid, ours, apart, letter);
+    let log = crown(mode, nodes, at, ours, apart, letter);
     Trail {
         log,
         letter,
@@ -88,6 +74,7 @@ pub(crate) fn walk(
     }
     let mid = s + (2 * half - 1);
     let rest = n - half;
+    let at = Fork { half, rest, mid };
     if i < half {
         let low = walk(mode, nodes, items, g, half, i, s, leaf, from);
         let right = nodes::fold_from(mode, nodes, rest, mid);
@@ -100,7 +87,7 @@ pub(crate) fn walk(
             left: low.letter,
             right: side,
         };
-        return fork(mode, nodes, half, rest, mid, low, ours, theirs);
+        return fork(mode, nodes, at, low, ours, theirs);
     }
     let left = nodes::node_at(nodes, mid - 1);
     // Within a peak the side is the item behind those of the walk below, above the peaks it is the first.
@@ -123,5 +110,5 @@ pub(crate) fn walk(
         left: side,
         right: low.letter,
     };
-    fork(mode, nodes, half, rest, mid, low, ours, theirs)
+    fork(mode, nodes, at, low, ours, theirs)
 }

@@ -4,7 +4,7 @@ use Prim.Native.Nat.{ℕ, ◌-◌, ◌^◌, ◌%◌}
 use native.Mathlib.Omega.{arith}
 use Rattle.digest.specs.Digest.{digest_in}
 use Rattle.letter_walk.specs.Steps.{Walkable}
-use Rattle.letter_walk.proofs.Turning.{Above, low_room, right_room, top_room}
+use Rattle.letter_walk.proofs.Turning.{Above, low_room, right_room}
 use Rattle.letter_walk.proofs.broken.Breaking.{either_none, broke_none, broke_low, broke_top, broke_left, broke_right}
 use Rattle.letter_walk.proofs.broken.+on_way.Goals as goal
 
@@ -25,9 +25,6 @@ returns-then-n-half t c =
     let f = above c.if-h-eq0.false c.power-half.ensures c.requires in
     let a = c.args in
     broke_low (digest_in a.mode.now) a.nodes.now a.n a.i a.s _ 0 f c.if-n-half.true c.on_way.ensures
-
-pub top_broken-requires : goal.top_broken-requires
-top_broken-requires t c = top_room (above c.if-h-eq0.false c.power-half.ensures c.requires)
 
 pub returns-then-top_broken : goal.returns-then-top_broken
 returns-then-top_broken t c =

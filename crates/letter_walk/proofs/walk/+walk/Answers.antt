@@ -62,8 +62,8 @@ fork-requires-2 t c =
     let f = above c.if-h-eq0.false c.power-half.ensures c.requires in
     let half = c.power-half.result in
     elim c.if-rest-half.branch [
-      | then-rest-half w ↦ rw w.t-36-is (fork_room f (c.args.n - half) (c.args.i - half) w.walk-low-then-rest-half.ensures.used)
-      | else-rest-half w ↦ rw w.t-36-is (fork_room f (c.args.n - half) (c.args.i - half) w.walk-else-rest-half.ensures.used)
+      | then-rest-half w ↦ rw w.t-37-is (fork_room f (c.args.n - half) (c.args.i - half) w.walk-low-then-rest-half.ensures.used)
+      | else-rest-half w ↦ rw w.t-37-is (fork_room f (c.args.n - half) (c.args.i - half) w.walk-else-rest-half.ensures.used)
     ]
 
 pub returns : goal.returns
@@ -72,12 +72,12 @@ returns t c =
     let a = c.args in
     elim c.if-rest-half.branch [
       | then-rest-half w ↦
-          let j = rw w.t-36-is at c.fork-2.ensures in
+          let j = rw w.t-37-is at c.fork-2.ensures in
           turned_within (digest_in a.mode.now) a.nodes.now a.items.now a.leaf.bytes a.n a.i a.s a.from _ _ _ _ f f.fits
           c.if-n-half.false c.if-i-half.false w.if-rest-half.true w.walk-low-then-rest-half.ensures
           c.node_at-left.ensures refl w.node_at-side-then-rest-half.ensures refl j
       | else-rest-half w ↦
-          let j = rw w.t-36-is at c.fork-2.ensures in
+          let j = rw w.t-37-is at c.fork-2.ensures in
           turned_past (digest_in a.mode.now) a.nodes.now a.items.now a.leaf.bytes a.n a.i a.s a.from _ _ _ _ f f.fits
           c.if-n-half.false c.if-i-half.false w.if-rest-half.false w.walk-else-rest-half.ensures
           c.node_at-left.ensures refl w.node_at-side-else-rest-half.ensures refl j
