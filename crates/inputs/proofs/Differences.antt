@@ -1,15 +1,16 @@
 -- Two inputs side by side: how they differ by their halves, and the first difference of two lists with them in front.
-use mathlib.Core.Path.{◌≡◌, sym, ap, ◌∙◌}
+use mathlib.Core.Path.{◌≡◌, refl, sym, ap, ◌∙◌}
 use mathlib.Core.Logic.{◌≢◌}
 use mathlib.Core.List.{List, ◌∷◌, ◌++◌}
 use Prim.Native.Nat.{ℕ}
 use lib.ListN.{length}
-use Rattle.wire.specs.Slices.{differ}
+use Rattle.std.specs.Prelude.{Bool, true, false}
+use Rattle.wire.specs.Slices.{bit, differ}
 use Rattle.wire.proofs.Differences.{differ_same, differ_other, same_of_differ}
 use Rattle.shape.specs.Difference.{decided, difference}
 use Rattle.shape.proofs.Difference.{difference_same, difference_other}
 use Rattle.shape.proofs.Bind.{fronts, backs}
-use Rattle.inputs.specs.Inputs.{above}
+use Rattle.inputs.specs.Inputs.{beside, above}
 
 -- two inputs differ by their left halves, where these do,
 pub apart_left : (l r x y : List ℕ) → length l ≡ length x → differ l x ≢ 0 → differ l x ≡ differ (l ++ r) (x ++ y)
@@ -28,6 +29,12 @@ apart_right l r x y z =
     ]
 
 module _ (a b : List ℕ) where
+  -- the digest of one beside the other's is its own
+  pub beside_own : (digest : List ℕ → List ℕ) (apart : Bool) (other : List ℕ) → bit apart ≡ differ a b → other ≡ digest b
+      → beside apart (digest a) other ≡ digest a
+  beside_own digest true other e o = refl
+  beside_own digest false other e o = o ∙ ap digest (sym (same_of_differ a b (sym e)))
+
   -- two lists with one input more in front
   pub above_is : (xs ys : List (List ℕ)) → above (differ a b) a b (difference xs ys) ≡ difference (a ∷ xs) (b ∷ ys)
   above_is xs ys = elim (decided a b) [

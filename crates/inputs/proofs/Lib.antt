@@ -1,3 +1,4 @@
--- Laws of two inputs, and of two lists of them.
+-- Laws of two inputs, of two lists of them, and of a fork.
 pub mod Differences
+pub mod Forks
 mod Lists

@@ -1,10 +1,13 @@
-// Inputs side by side, and the first two that differ.
+// Inputs side by side, the first two that differ, and the forks where they stand.
 #![tactic(auto)]
 
 ghost use Rattle.std.specs.Prelude.{◌≡◌, ◌*◌, ◌^◌, ◌≤◌};
+ghost use Rattle.digest.specs.Digest.{digest_in};
 ghost use Rattle.wire.specs.Slices.{part, bit, differ};
 ghost use Rattle.inputs.specs.Given.{in_both, given_difference};
-ghost use Rattle.inputs.specs.Inputs.{bytes_of, told, above};
+ghost use Rattle.inputs.specs.Inputs.{bytes_of, beside, told, above};
+
+pub mod fork;
 
 use digest::Digest;
 
@@ -34,6 +37,16 @@ pub fn inputs_differ(a: Input, b: Input) -> bool
     ensures { bit result ≡ differ (bytes_of a) (bytes_of b) }
 {
     digests_differ(a.left, b.left) || digests_differ(a.right, b.right)
+}
+
+// The digest of an input, where another has the digest `other`: that one, unless the two are apart.
+pub fn digest_beside(mode: &[u8; 36], input: Input, apart: bool, other: Digest) -> Digest
+    ensures { result.bytes ≡ beside apart (digest_in mode.now (bytes_of input)) other.bytes }
+{
+    if !apart {
+        return other;
+    }
+    digest::digest_of_pair(mode, input.left, input.right)
 }
 
 // The first difference with two inputs more above: these where they are apart, else the one below.

@@ -20,7 +20,6 @@ use Rattle.letter.proofs.Sides.{side_left, side_right, side_past}
 use Rattle.inputs.specs.declared.Input.{Input}
 use Rattle.letter_walk.specs.declared.Trail.{Trail}
 use Rattle.inputs.specs.Inputs.{bytes_of, told}
-use Rattle.letter_walk.specs.Room.{Forkable}
 use Rattle.letter_walk.specs.Steps.{crown, OneFork, Walkable, Walked}
 use Rattle.letter_walk.proofs.Inputs.{inputs_left, inputs_right, inputs_past}
 use Rattle.letter_walk.proofs.Forks.{sides_are, walked}
@@ -36,13 +35,6 @@ pub record Above (h n i s from half : ℕ) : Type 0 where
 module _ {h n i s from half : ℕ} (f : Above h n i s from half) where
   halves : Halved h half
   halves = halved h half (omega (arith, f.some)) (omega (arith, f.fits.low)) f.power
-
-  pub half_bounds : (0 < half) × (half ≤ 2 ^ 32) × (s + 4 * half ≤ 2 ^ 34)
-  half_bounds = (
-    halves.some,
-    omega (arith, halves.is, pow_mono {i = h - 1} {j = 32} (omega (arith, f.fits.low))),
-    omega (arith, halves.whole, f.fits.near),
-  )
 
   pub low_room : n ≤ half → Walkable (h - 1) n i s from
   low_room p =
@@ -75,11 +67,9 @@ module _ {h n i s from half : ℕ} (f : Above h n i s from half) where
         few = omega (arith, f.fits.few, f.some);
       }
 
-  pub top_room : Forkable half (s + (2 * half - 1))
-  top_room = let b = half_bounds in record { some = b.0; few = b.1; past = omega arith; near = omega arith }
-
+  -- a walk below takes few items
   pub fork_room : {used : ℕ} (m j : ℕ) → used ≡ length (way_in (h - 1) m j) → used ≤ 64
-  fork_room m j e = omega (arith, way_most (h - 1) m j, f.fits.low)
+  fork_room m j e = omega (arith, way_most (h - 1) m j, f.fits.low, e)
 
 -- ---- what is found
 

@@ -1,4 +1,3 @@
 -- What a walk answers, and what its own steps are called.
-pub mod Room
 pub mod Outcome
 pub mod Steps

@@ -6,18 +6,17 @@ ghost use Rattle.shape.specs.Seen.{broken_in};
 ghost use Rattle.nodes.specs.Nodes.{node_in};
 ghost use Rattle.letter_walk.specs.Steps.{top_broken, Walkable};
 
-use crate::Fork;
+use inputs::fork::Fork;
 
 // Whether the node on top of a fork isn't the digest of its two children. Above the peaks no node stands there.
-fn top_broken(mode: &[u8; 36], nodes: &[u8], f: Fork) -> bool
-    ensures { bit result ≡ top_broken (digest_in mode.now) nodes.now f.half f.rest f.mid }
+fn top_broken(mode: &[u8; 36], nodes: &[u8], at: Fork) -> bool
+    ensures { bit result ≡ top_broken (digest_in mode.now) nodes.now at.half at.rest at.mid }
 {
-    if f.rest != f.half {
+    let Some(top) = at.top(nodes) else {
         return false;
-    }
-    let left = nodes::node_at(nodes, f.mid - 1);
-    let right = nodes::node_at(nodes, f.mid + (2 * f.half - 2));
-    let top = nodes::node_at(nodes, f.mid + (2 * f.half - 1));
+    };
+    let left = nodes::node_at(nodes, at.mid - 1);
+    let right = nodes::node_at(nodes, at.mid + (2 * at.half - 2));
     inputs::digests_differ(top, digest::digest_of_pair(mode, left, right))
 }
 
@@ -36,7 +35,8 @@ pub(crate) fn on_way(mode: &[u8; 36], nodes: &[u8], h: u32, n: u64, i: u64, s: u
     }
     let mid = s + (2 * half - 1);
     let rest = n - half;
-    if top_broken(mode, nodes, Fork { half, rest, mid }) {
+    let at = Fork { half, rest, mid };
+    if top_broken(mode, nodes, at) {
         return true;
     }
     if i < half {

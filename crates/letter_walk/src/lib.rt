@@ -5,7 +5,6 @@ ghost use Rattle.std.specs.Prelude.{◌≡◌};
 ghost use Rattle.digest.specs.Digest.{digest_in};
 ghost use Rattle.wire.specs.Slices.{bit};
 ghost use Rattle.nodes.specs.Nodes.{node_in};
-ghost use Rattle.letter_walk.specs.Room.{Forkable};
 ghost use Rattle.letter_walk.specs.Outcome.{walked_off, walk_none, walk_outcome, broken_outcome};
 
 mod broken;
@@ -24,16 +23,7 @@ pub struct Trail {
     pub difference: Option<Unequal>,
 }
 
-// A fork of `half` leaves and `rest`, whose right side begins at position mid: no sum wraps there.
-#[derive(Clone, Copy)]
-struct Fork {
-    half: u64,
-    rest: u64,
-    mid: u64,
-    ghost room: { Forkable half mid },
-}
-
-// Nothing found.
+// Nothing found. The Trail of `passage_walk` has other fields, and so its own such answer.
 fn nothing() -> Trail
     ensures { walked_off result ≡ walk_none }
 {

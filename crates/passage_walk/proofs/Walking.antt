@@ -87,14 +87,10 @@ module _ (h n : ℕ) (is : List ℕ) (at : Place) {half : ℕ} (t : Halved h hal
           items = omega (arith, falls, c.items, few_lefts);
         })
 
-    pub joinable : {x : Place} (r : Part) → x ≡ beyond → Walked digest bs leaves items (h - 1) (n - half) (after k is) x r
-        → Joinable half x.node l r
-    joinable {x} r u f =
+    pub joinable : {x : Place} (r : Part) → Walked digest bs leaves items (h - 1) (n - half) (after k is) x r → Joinable l r
+    joinable {x} r f =
         let m : length (after k is) ≤ 256 = rw (rest_all k is, length-drop) (omega (arith, c.countable.few)) in
         record {
-          some = t.some;
-          few = omega (arith, t.whole, c.countable.near, t.some);
-          near = rw u (omega (arith, t.whole, c.near));
           lefts = few_lefts;
           rights = (
             omega (arith, f.taken.asks, passage_asks_most (h - 1) (n - half) x.leaf (after k is)),

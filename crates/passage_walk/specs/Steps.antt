@@ -22,10 +22,7 @@ pub record Crowned (bs : List ℕ) (half rest mid : ℕ) (up top : List ℕ) : T
   pub above : (rest ≡ half → ⊥) → top ≡ up
 
 -- no sum wraps
-pub record Joinable (half mid : ℕ) (left right : Part) : Type 0 where
-  pub some : 1 ≤ half
-  pub few : half ≤ 2 ^ 32
-  pub near : mid ≤ 2 ^ 34
+pub record Joinable (left right : Part) : Type 0 where
   pub lefts : (left.asked ≤ 8192) × (left.used ≤ 8192)
   pub rights : (right.asked ≤ 8192) × (right.used ≤ 8192)
 

@@ -43,7 +43,7 @@ struct Place {
     used: u64,
 }
 
-// Nothing found.
+// Nothing found. The Trail of `letter_walk` has other fields, and so its own such answer.
 fn nothing() -> Trail
     ensures { walked_off result ≡ walk_none }
 {

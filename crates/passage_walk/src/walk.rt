@@ -4,6 +4,7 @@ ghost use Rattle.digest.specs.Digest.{digest_in};
 ghost use Rattle.passage_walk.specs.Steps.{next, Passable, Given, Asked, Walkable, Walked};
 
 use crate::{Part, Place, join};
+use inputs::fork::Fork;
 
 // A subtree whose digest is given.
 fn given(mode: &[u8; 36], nodes: &[u8], items: &[u8], n: u64, at: Place) -> Part
@@ -79,5 +80,10 @@ pub(crate) fn walk(
     let left = walk(mode, nodes, leaves, items, g, half, fore, at);
     let next = beyond(at, half, left.asked, left.used);
     let right = walk(mode, nodes, leaves, items, g, rest, back, next);
-    join::join(mode, nodes, half, rest, next.node, left, right)
+    let fork = Fork {
+        half,
+        rest,
+        mid: next.node,
+    };
+    join::join(mode, nodes, fork, left, right)
 }

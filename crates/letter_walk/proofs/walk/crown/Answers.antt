@@ -1,20 +1,19 @@
--- Within a peak the node; above the peaks the digest of the log's input, which is the letter's where the inputs are the same.
+-- Within a peak the node; above the peaks the digest of the log's input beside the letter's.
 use mathlib.Core.Path.{sym, ◌∙◌}
 use borrow.Author.Tests.{eq-eqb, ne_eqb}
+use Rattle.inputs.proofs.Forks.{top_some, top_none}
 use Rattle.letter_walk.specs.Steps.{crown}
 use Rattle.letter_walk.proofs.walk.crown.Goals as goal
 
-pub returns-then-f : goal.returns-then-f
+pub returns-in-Some : goal.returns-in-Some
 unfolding crown
-returns-then-f c = let a = c.args in c.node_at.ensures ∙ sym (rw (eq-eqb a.f.rest a.f.half c.if-f.true, crown))
+returns-in-Some c =
+    let a = c.args.at in
+    let t = top_some c.args.nodes.now a.half a.rest a.mid c.in-Some.node c.in-Some.ensures in
+    t.1 ∙ sym (rw (eq-eqb a.rest a.half t.0, crown))
 
-pub returns-then-apart : goal.returns-then-apart
+pub returns-in-None : goal.returns-in-None
 unfolding crown
-returns-then-apart c =
-    let a = c.args in
-    c.digest_of_pair.ensures ∙ sym (rw (ne_eqb a.f.rest a.f.half c.if-f.false, crown))
-
-pub returns : goal.returns
-unfolding crown
-returns c =
-    c.requires c.if-apart.false ∙ sym (rw (ne_eqb c.args.f.rest c.args.f.half c.if-f.false, crown))
+returns-in-None c =
+    let a = c.args.at in
+    c.digest_beside.ensures ∙ sym (rw (ne_eqb a.rest a.half (top_none c.args.nodes.now a.half a.rest a.mid c.in-None.ensures), crown))

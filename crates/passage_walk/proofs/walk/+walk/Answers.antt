@@ -99,7 +99,7 @@ join-requires t c =
     halved a.h c.power-half.result (omega (arith, c.if-h-eq0.false)) (omega (arith, c.requires.countable.low)) c.power-half.ensures in
     joinable a.h a.n a.is.now a.at f c.requires (digest_in a.mode.now) a.nodes.now a.leaves.now a.items.now
     c.below-k.result (omega (arith, c.if-n-half.false)) c.walk-left.result c.walk-left.ensures c.walk-right.result
-    c.beyond-next.ensures c.walk-right.ensures
+    c.walk-right.ensures
 
 pub returns : goal.returns
 returns t c =
