@@ -31,15 +31,12 @@ pub fn pass(mode: &[u8; 36], size: u64, root: &[u8], letter: &[u8]) -> Result<Fi
     Ok(f)
 }
 
-// Checks a letter: how many records it has. Refuses by 1, 12, 7 (under 10), 8, 19; for each record 7, 19, 5, 3, 7; then 7 (exact), 9. A `?` would copy
-// the two arrays (bench/passage.sh).
+// Checks a letter: how many records it has. Refuses by 1, 12, 7 (under 10), 8, 19; for each record 7, 19, 5, 3, 7; then 7 (exact), 9.
 pub fn check(mode: &[u8; 36], size: u64, root: &[u8], letter: &[u8]) -> Result<u64, Refused>
     ensures { checked result ≡ check_outcome (digest_in mode.now) size root.now letter.now }
 {
-    match pass(mode, size, root, letter) {
-        Ok(f) => Ok(f.count as u64),
-        Err(why) => Err(why),
-    }
+    let f = pass(mode, size, root, letter)?;
+    Ok(f.count as u64)
 }
 
 // The verdict for trusted size, root and one letter in a row. 12 for under 40 bytes.
