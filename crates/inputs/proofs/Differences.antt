@@ -28,6 +28,11 @@ apart_right l r x y z =
       | no f ↦ differ_other r y f ∙ sym (differ_other _ _ (λ g. f (backs l r x y (ap length e) g)))
     ]
 
+-- a digest beside one that is it, where the two aren't apart
+pub beside_known : (apart : Bool) (own other : List ℕ) → (apart ≡ false → other ≡ own) → beside apart own other ≡ own
+beside_known true own other h = refl
+beside_known false own other h = h refl
+
 module _ (a b : List ℕ) where
   -- the digest of one beside the other's is its own
   pub beside_own : (digest : List ℕ → List ℕ) (apart : Bool) (other : List ℕ) → bit apart ≡ differ a b → other ≡ digest b

@@ -8,7 +8,7 @@ use Rattle.inputs.specs.declared.Unequal.{Unequal}
 abbrev pub bytes_of : Input → List ℕ
 bytes_of x = x.left.bytes ++ x.right.bytes
 
--- the digest of an input, or that of the one beside it where the two aren't apart
+-- the digest of an input or a record, or that of the one beside it where the two aren't apart
 abbrev pub beside : Bool → List ℕ → List ℕ → List ℕ
 beside true own other = own
 beside false own other = other

@@ -49,6 +49,16 @@ pub fn digest_beside(mode: &[u8; 36], input: Input, apart: bool, other: Digest) 
     digest::digest_of_pair(mode, input.left, input.right)
 }
 
+// The digest of a record, where another has the digest `other`: that one, unless the two are apart.
+pub fn record_beside(mode: &[u8; 36], rec: &[u8], apart: bool, other: Digest) -> Digest
+    ensures { result.bytes ≡ beside apart (digest_in mode.now rec.now) other.bytes }
+{
+    if !apart {
+        return other;
+    }
+    digest::digest_of(mode, rec)
+}
+
 // The first difference with two inputs more above: these where they are apart, else the one below.
 pub fn higher(below: Option<Unequal>, apart: bool, ours: Input, theirs: Input) -> Option<Unequal>
     ensures { told result ≡ above (bit apart) (bytes_of ours) (bytes_of theirs) (told below) }

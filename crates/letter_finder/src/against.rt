@@ -11,18 +11,6 @@ use difference::Finding;
 use digest::Digest;
 use refusals::Refused;
 
-// The digest of the log's own record, which is the letter's leaf where the two records are the same.
-fn own_digest(mode: &[u8; 36], apart: bool, leaf: Digest, rec: &[u8]) -> Digest
-    requires { apart ≡ false → leaf.bytes ≡ digest_in mode.now rec.now }
-    ensures { result.bytes ≡ digest_in mode.now rec.now }
-{
-    if apart {
-        digest::digest_of(mode, rec)
-    } else {
-        leaf
-    }
-}
-
 // Whether a node on the path, within its peak, isn't the digest of its two children. Where no input differs, each is, and the path is not looked at
 // again.
 fn way_broken(mode: &[u8; 36], nodes: &[u8], n: u64, i: u64, apart: bool) -> bool
@@ -59,7 +47,7 @@ pub(crate) fn against(
         return Err(Refused::RecordTooLong);
     }
     let apart = wire::differ(rec, theirs);
-    let own = own_digest(mode, apart, leaf, rec);
+    let own = inputs::record_beside(mode, rec, apart, leaf);
     if letter::leaf::foreign(nodes, i, own) {
         return Err(Refused::OtherRecord);
     }

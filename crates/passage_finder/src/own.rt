@@ -9,18 +9,6 @@ ghost use Rattle.passage_finder.specs.Steps.{one_order, LeafBeside, Sooner, own_
 use digest::Digest;
 use refusals::Refused;
 
-// The digest of the log's own record, which is the letter's leaf where the two records are the same.
-fn own_digest(mode: &[u8; 36], apart: bool, leaf: Digest, rec: &[u8]) -> Digest
-    requires { LeafBeside (digest_in mode.now) apart leaf.bytes rec.now }
-    ensures { result.bytes ≡ digest_in mode.now rec.now }
-{
-    if apart {
-        digest::digest_of(mode, rec)
-    } else {
-        leaf
-    }
-}
-
 // What one of the log's own records is refused with at its index.
 fn record_refusal(
     mode: &[u8; 36],
@@ -36,7 +24,7 @@ fn record_refusal(
     if wire::LONGEST_RECORD < rec.len() {
         return Err(Refused::RecordTooLong);
     }
-    let own = own_digest(mode, apart, leaf, rec);
+    let own = inputs::record_beside(mode, rec, apart, leaf);
     if letter::leaf::foreign(nodes, i, own) {
         return Err(Refused::OtherRecord);
     }

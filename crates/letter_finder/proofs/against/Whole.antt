@@ -8,7 +8,6 @@ use Rattle.std.specs.Option.{is_some}
 use Rattle.inputs.specs.declared.Unequal.{Unequal}
 use Rattle.digest.specs.Digest.{digest_in, digest_length}
 use Rattle.wire.specs.Slices.{bit, differ, rows_from}
-use Rattle.wire.proofs.Differences.{same_of_differ}
 use Rattle.shape.specs.Tree.{root, inputs}
 use Rattle.shape.specs.Way.{way}
 use Rattle.shape.specs.Difference.{agree, difference}
@@ -21,7 +20,8 @@ use Rattle.letter_walk.specs.declared.Trail.{Trail}
 use Rattle.letter_walk.specs.Outcome.{WalkOutcome, walked_off, walk_done, walk_outcome}
 use Rattle.letter_walk.proofs.Whole.{walk_inside}
 use Rattle.letter_finder.specs.Outcome.{own_root}
-use Rattle.inputs.specs.Inputs.{told}
+use Rattle.inputs.specs.Inputs.{beside, told}
+use Rattle.inputs.proofs.Differences.{beside_own}
 use Rattle.shape.proofs.Beside.{agreed}
 
 -- what the walk finds in the nodes bs, of a letter's record and items
@@ -43,10 +43,10 @@ whole mode bs n i theirs items {leaf} {w} p q l o =
       first = ap (λ (x : WalkOutcome). x.first) e;
     }
 
--- where two records are the same, the digest of one is that of the other
-pub same_digest : (mode rec theirs : List ℕ) {apart : Bool} {leaf : List ℕ} → bit apart ≡ differ rec theirs → leaf ≡ digest_in mode theirs → apart ≡ false
-    → leaf ≡ digest_in mode rec
-same_digest mode rec theirs e l z = l ∙ ap (digest_in mode) (sym (same_of_differ rec theirs (sym e ∙ ap bit z)))
+-- the digest of the log's own record, beside the letter's
+pub own_is : (mode rec theirs : List ℕ) (apart : Bool) {leaf own : List ℕ} → bit apart ≡ differ rec theirs → leaf ≡ digest_in mode theirs
+    → own ≡ beside apart (digest_in mode rec) leaf → own ≡ digest_in mode rec
+own_is mode rec theirs apart {leaf} e f o = o ∙ beside_own rec theirs (digest_in mode) apart leaf e f
 
 -- where no two inputs are told, no input differs
 alike : (d : Option Unequal) → is_some d ≡ false → told d ≡ agree

@@ -16,7 +16,7 @@ use Rattle.difference.specs.Outcome.{settled}
 use Rattle.letter_walk.specs.declared.Trail.{Trail}
 use Rattle.letter_finder.specs.Outcome.{own_root, own_order}
 use Rattle.letter_finder.specs.Steps.{against_outcome}
-use Rattle.letter_finder.proofs.against.Whole.{Whole, whole, same_digest, whole_sound}
+use Rattle.letter_finder.proofs.against.Whole.{Whole, whole, own_is, whole_sound}
 use Rattle.letter_finder.proofs.against.against.Goals as goal
 
 -- whether the two roots differ, by what the walk found
@@ -41,18 +41,14 @@ returns-then-rec-gt-LONGEST_RECORD c =
     let e = roots w c.if-digests_differ.ensures in
     passes _ _ _ (refuses 3 _ _ _ refl (search rules)) (search rules)
 
-pub own_digest-own-requires : goal.own_digest-own-requires
-own_digest-own-requires c =
-    let a = c.args in
-    same_digest a.mode.now a.rec.now a.theirs.now c.differ-apart.ensures c.digest_of-leaf.ensures
-
 pub returns-then-foreign : goal.returns-then-foreign
 unfolding against_outcome own_order
 returns-then-foreign c =
     let a = c.args in
     let w = whole a.mode.now a.nodes.now a.n a.i a.theirs.now a.items.now {w = c.walk_to-w.result} c.requires.0 c.requires.1 c.digest_of-leaf.ensures c.walk_to-w.ensures in
     let e = roots w c.if-digests_differ.ensures in
-    let f = foreign_by (digest_in a.mode.now) (node_in a.nodes.now) a.i a.rec.now c.own_digest-own.ensures c.if-foreign.ensures in
+    let f = foreign_by (digest_in a.mode.now) (node_in a.nodes.now) a.i a.rec.now
+    (own_is a.mode.now a.rec.now a.theirs.now _ c.differ-apart.ensures c.digest_of-leaf.ensures c.record_beside-own.ensures) c.if-foreign.ensures in
     passes _ _ _ (refuses 13 _ _ _ refl (search rules)) (search rules)
 
 pub way_broken-requires : goal.way_broken-requires
@@ -69,7 +65,8 @@ returns-then-way_broken c =
     let a = c.args in
     let w = whole a.mode.now a.nodes.now a.n a.i a.theirs.now a.items.now {w = c.walk_to-w.result} c.requires.0 c.requires.1 c.digest_of-leaf.ensures c.walk_to-w.ensures in
     let e = roots w c.if-digests_differ.ensures in
-    let f = foreign_by (digest_in a.mode.now) (node_in a.nodes.now) a.i a.rec.now c.own_digest-own.ensures c.if-foreign.ensures in
+    let f = foreign_by (digest_in a.mode.now) (node_in a.nodes.now) a.i a.rec.now
+    (own_is a.mode.now a.rec.now a.theirs.now _ c.differ-apart.ensures c.digest_of-leaf.ensures c.record_beside-own.ensures) c.if-foreign.ensures in
     let b = c.if-way_broken.ensures in
     passes _ _ _ (refuses 14 _ _ _ refl (search rules)) (search rules)
 
@@ -79,7 +76,8 @@ returns c =
     let a = c.args in
     let w = whole a.mode.now a.nodes.now a.n a.i a.theirs.now a.items.now {w = c.walk_to-w.result} c.requires.0 c.requires.1 c.digest_of-leaf.ensures c.walk_to-w.ensures in
     let e = roots w c.if-digests_differ.ensures in
-    let f = foreign_by (digest_in a.mode.now) (node_in a.nodes.now) a.i a.rec.now c.own_digest-own.ensures c.if-foreign.ensures in
+    let f = foreign_by (digest_in a.mode.now) (node_in a.nodes.now) a.i a.rec.now
+    (own_is a.mode.now a.rec.now a.theirs.now _ c.differ-apart.ensures c.digest_of-leaf.ensures c.record_beside-own.ensures) c.if-foreign.ensures in
     let b = c.if-way_broken.ensures in
     let o = c.settle.ensures ∙ ap₂ (λ (d : Diff) (m : ℕ). settled d m a.first.now a.second.now) w.first c.differ-apart.ensures in
     passes _ _ _ (passes _ _ _ o (search rules)) (search rules)
