@@ -20,7 +20,7 @@ pub fn put(d: &mut [u8], x: Input)
 }
 
 // The answer by the first difference of the inputs and, with none, by whether the records are apart. Refuses by 6, whatever the outcome. Of a pair
-// ours goes into the first buffer, theirs into the second.
+// ours goes into the first buffer, theirs into the second, which are lent apart, as C lends them.
 pub fn settle(
     highest: Option<Unequal>,
     apart: bool,

@@ -25,7 +25,7 @@ pub struct Unequal {
     pub theirs: Input,
 }
 
-// Whether two digests differ.
+// Whether two digests differ, as `differ` has it of their bytes: the finders' statements read it so, which a derived `!=` would not say.
 pub fn digests_differ(a: Digest, b: Digest) -> bool
     ensures { bit result ≡ differ a.bytes b.bytes }
 {

@@ -37,7 +37,8 @@ pub fn record_in<'a>(mode: &[u8; 36], size: u64, root: &[u8], letter: &'a [u8]) 
     }
 }
 
-// Judges trusted size, root and one letter in a row. 12 for under 40 bytes.
+// Judges trusted size, root and one letter in a row. 12 for under 40 bytes. The passages' checker has its own, by its own check: one for both would
+// be handed the check, and say no more.
 pub fn judge(mode: &[u8; 36], input: &[u8]) -> Result<(), Refused>
     ensures { number_in result ≡ judged (digest_in mode.now) input.now }
 {

@@ -33,7 +33,8 @@ pub fn put_new(mode: &[u8; 36], size: u64, m: u32, rec: &[u8], nodes: &mut [u8])
     Some(count)
 }
 
-// The left children of the m parents above a leaf that is to stand at position `size`, lowest first: at most 32 digests.
+// The left children of the m parents above a leaf that is to stand at position `size`, lowest first: at most 32
+// digests, in fixed memory.
 fn lefts(nodes: &[u8], size: u64, m: u32) -> [u8; 1024]
     requires { (m ≤ 32) × (size ≤ 2 ^ 60) × (2 ^ m ≤ size + 1) }
     ensures { Lefts nodes.now size m result }

@@ -39,7 +39,8 @@ pub fn check(mode: &[u8; 36], size: u64, root: &[u8], letter: &[u8]) -> Result<u
     Ok(f.count as u64)
 }
 
-// The verdict for trusted size, root and one letter in a row. 12 for under 40 bytes.
+// The verdict for trusted size, root and one letter in a row. 12 for under 40 bytes. The checker of one record's letter has its own, by its own check:
+// one for both would be handed the check, and say no more.
 pub fn judge(mode: &[u8; 36], input: &[u8]) -> Result<(), Refused>
     ensures { number_in result ≡ judged (digest_in mode.now) input.now }
 {

@@ -15,7 +15,7 @@ use passage::{FRAME, HEAD, MOST_RECORDS};
 use refusals::Refused;
 
 // A letter taken apart: how many records there are, the place behind them, their indexes, and the places where their 12 bytes begin, with zeros
-// behind these.
+// behind these. There is no heap; and the indexes are an array of their own, since a walk is lent them alone.
 #[derive(Drop)]
 pub struct Fields {
     pub count: usize,
@@ -34,7 +34,7 @@ fn index_at(letter: &[u8], at: usize) -> u64
     wire::read8(rest, 0)
 }
 
-// The stated length of the record whose 12 bytes begin at a place.
+// The stated length of the record whose 12 bytes begin at a place: as `index_at`, of another width.
 pub fn stated_at(letter: &[u8], at: usize) -> usize
     ensures { result ≡ stated_at letter.now at }
 {

@@ -54,7 +54,8 @@ pub fn record_in<'a>(mode: &[u8; 36], size: u64, root: &[u8], letter: &'a [u8], 
     &letter[e.start..e.start + e.length]
 }
 
-// The index, start and length of each record at these places, into the first places of three slices.
+// The index, start and length of each record at these places, into the first places of three slices, which are lent apart, as C
+// lends them.
 fn list(
     letter: &[u8],
     given: &[u64],

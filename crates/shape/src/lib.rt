@@ -38,7 +38,7 @@ pub fn size_of(n: u64) -> Result<u64, Refused>
     }
 }
 
-// Where leaf i stands. 5 unless i is below 2^32.
+// Where leaf i stands. 5 unless i is below 2^32: another limit and another refusal than a size has.
 pub fn leaf_position(i: u64) -> Result<u64, Refused>
     ensures { answered result ≡ position_answer i }
 {

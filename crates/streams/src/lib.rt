@@ -15,6 +15,7 @@ pub fn read_full<R: Read>(input: &mut R, buf: &mut [u8]) -> usize
     ensures bytes { Consumes (R.remaining input.old) (R.remaining input.new) (take result buf.new) }
 {
     let mut done = 0;
+    // how far a turn goes is what the read answers
     while done < buf.len() {
         match input.read(&mut buf[done..]) {
             Ok(0) | Err(_) => break,
