@@ -1,23 +1,21 @@
 -- What a part makes of a state, as it is stored.
 use mathlib.Core.Path.{◌≡◌, refl, sym, ap, ap₂, ◌∙◌}
 use mathlib.Core.List.{List, ◌++◌, append-nil}
-use Prim.Native.Nat.{ℕ, ◌+◌, ◌-◌, ◌*◌, ◌/◌, ◌^◌, ◌≤◌, ◌<◌}
+use Prim.Native.Nat.{ℕ, ◌+◌, ◌-◌, ◌*◌, ◌^◌, ◌≤◌, ◌<◌}
 use native.Mathlib.Omega.{arith}
-use lib.Count.{ones}
 use lib.ListN.{length, take, drop, length-append, length-drop, take-append-drop}
 use lib.Seq.{length-take-le, take_all}
 use Rattle.blake.specs.Modes.{flag_in}
 use Rattle.wire.specs.Slices.{zeros}
-use Rattle.parts_rule.specs.Subtrees.{finished}
 use Rattle.parts_rule.specs.Run.{between, put, flushed, taken}
 use Rattle.parts_rule.proofs.Puts.{taken_put, taken_filled}
 use Rattle.parts.specs.declared.Parts.{Parts}
 use Rattle.parts_rule.specs.Counts.{held_of}
 use Rattle.parts_rule.specs.Stack.{subtrees, padded}
 use Rattle.parts.specs.State.{start_in, start_of, flag_of, Counted, run_of, stored}
-use Rattle.parts_rule.specs.Steps.{Full, full_run, Gone, Ready, Went}
+use Rattle.parts_rule.specs.Steps.{full_run, Gone, Went}
 use Rattle.parts_rule.proofs.Places.{subtrees_length, joined_take}
-use Rattle.parts_rule.proofs.Counts.{held_low, filled_held, filled_before, none_held}
+use Rattle.parts_rule.proofs.Counts.{held_low}
 
 -- fields are those of a run with these bytes in the block
 abbrev pub fields : ℕ → ℕ → ℕ → ℕ → List ℕ → List ℕ → List ℕ → List ℕ → Parts
@@ -58,27 +56,6 @@ module _ (s : Parts) (part : List ℕ) (size : length s.block ≡ 64) (g : Count
   pub takes_put : s.held + length part ≤ 64 → put (run_of s) part ≡ taken (start_of s) (flag_of s) (run_of s) part
   takes_put l = sym (taken_put (start_of s) (flag_of s) (run_of s) part (omega (arith, held_is)))
 
--- ---- a part on a state that holds no byte
-
-module _ (s : Parts) (part : List ℕ) (g : Counted s) (none : s.held ≡ 0) (limit : s.total + length part ≤ 2 ^ 40) where
-  zero_total : s.total ≡ 0
-  zero_total = none_held s.total (sym g.held ∙ none)
-
-  pub none_ready : Ready s.stacked s.total (length part)
-  none_ready =
-      record {
-        even = omega (arith, zero_total);
-        count = g.stacked ∙ ap ones (let e : finished s.total ≡ s.total / 1024 = omega (arith, zero_total) in e);
-        limit = limit;
-      }
-
-  pub takes_none : taken (start_of s) (flag_of s) (between (subtrees s.stack s.stacked) s.chain s.total) part
-      ≡ taken (start_of s) (flag_of s) (run_of s) part
-  takes_none =
-      ap (λ (n : ℕ). taken (start_of s) (flag_of s)
-      (record { stack = subtrees s.stack s.stacked; chain = s.chain; block = take n s.block; total = s.total }) part)
-      (sym none)
-
 -- ---- a part that begins between two blocks
 
 module _ (keyed : ℕ) (key chain ws : List ℕ) (stacked total : ℕ) (part : List ℕ) {start : List ℕ} {flag : ℕ} (es : start ≡ start_in keyed key)
@@ -110,16 +87,8 @@ module _ (s : Parts) (part : List ℕ) (size : length s.block ≡ 64) (g : Count
   to_full : held_of s.total + space ≡ 64
   to_full = omega (arith, g.held, held)
 
-  pub space_length : length (take space part) ≡ space
+  space_length : length (take space part) ≡ space
   space_length = length-take-le space part (omega (arith, held))
-
-  pub fills_full : Full (s.total + space) s.stacked
-  fills_full =
-      record {
-        limit = omega (arith, held);
-        held = filled_held s.total space held_one to_full;
-        high = g.stacked ∙ ap ones (filled_before s.total space held_one to_full);
-      }
 
   -- the block as it is filled
   abbrev filled : List ℕ

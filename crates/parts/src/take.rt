@@ -3,12 +3,13 @@ ghost use Rattle.std.specs.Prelude.{◌≡◌, true, ◌+◌, ◌%◌, ◌<◌, 
 ghost use Rattle.blake.specs.Blake.{root_node};
 ghost use Rattle.parts_rule.specs.Run.{between, put, taken, ended};
 ghost use Rattle.parts_rule.specs.Stack.{subtrees};
-ghost use Rattle.parts.specs.State.{Counted, start_of, flag_of, run_of, stored};
+ghost use Rattle.parts.specs.State.{start_of, flag_of, run_of, stored};
 ghost use Rattle.parts_rule.specs.Steps.{Ready, Went};
 
 use crate::Parts;
 use crate::blocks::{Run, block_with, go_on, opening};
 use crate::modes::keying_of;
+use crate::sound::Sound;
 use blake::flags::ROOT;
 use blake::tree::quad;
 use chunks::{CHUNK_END, Keying, chunk};
@@ -77,23 +78,6 @@ fn steps<'a>(keying: Keying, run: Run, stack: &mut [u32], part: &'a [u8]) -> (Ru
     (at, rest)
 }
 
-// A part that has room in the block.
-fn put_in(s: Parts, part: &[u8]) -> Parts
-    requires { Counted s × (s.held + length part.now ≤ 64) }
-    ensures { result ≡ stored s.keyed s.key (put (run_of s) part.now) }
-{
-    let mut stack = s.stack;
-    clear(&mut stack, 8 * (s.stacked as usize));
-    let more = part.len() as u64;
-    Parts {
-        total: s.total + more,
-        held: s.held + more,
-        stack,
-        block: block_with(s.block, s.held as usize, part),
-        ..s
-    }
-}
-
 // A part that begins between two blocks.
 fn take_on(s: Parts, part: &[u8]) -> Parts
     requires { Ready s.stacked s.total (length part.now) × (0 < length part.now) }
@@ -122,48 +106,6 @@ fn take_on(s: Parts, part: &[u8]) -> Parts
     }
 }
 
-// A part that fills the block, with bytes that follow.
-fn fill(s: Parts, part: &[u8]) -> Parts
-    requires { Counted s × (0 < s.held) × (64 < s.held + length part.now) × (s.total + length part.now ≤ 2 ^ 40) }
-    ensures { result ≡ stored s.keyed s.key (taken (start_of s) (flag_of s) (run_of s) part.now) }
-{
-    let mut stack = s.stack;
-    let held = s.held as usize;
-    let space = 64 - held;
-    let full = block_with(s.block, held, &part[..space]);
-    let chain = s.chain;
-    let before = Run {
-        chain,
-        stacked: s.stacked,
-        total: s.total + (space as u64),
-    };
-    let run = go_on(keying_of(s.keyed, s.key), before, &mut stack, &full);
-    let chain = run.chain;
-    let next = Parts {
-        total: run.total,
-        held: 0,
-        stacked: run.stacked,
-        chain,
-        stack,
-        ..s
-    };
-    take_on(next, &part[space..])
-}
-
-// A part of one byte or more.
-pub(crate) fn take_in(s: Parts, part: &[u8]) -> Parts
-    requires { Counted s × (0 < length part.now) × (s.total + length part.now ≤ 2 ^ 40) }
-    ensures { result ≡ stored s.keyed s.key (taken (start_of s) (flag_of s) (run_of s) part.now) }
-{
-    if part.len() <= 64 - s.held as usize {
-        return put_in(s, part);
-    }
-    if s.held == 0 {
-        return take_on(s, part);
-    }
-    fill(s, part)
-}
-
 // The root flag for the last block, where it is in the only chunk.
 fn root_flag(stacked: u32) -> u32
     ensures { (stacked ≡ 0 → result ≡ root_node) × (0 < stacked → result ≡ 0) × (result ≤ root_node) }
@@ -171,15 +113,79 @@ fn root_flag(stacked: u32) -> u32
     if stacked == 0 { ROOT as u32 } else { 0 }
 }
 
-// The digest: the last block ends its chunk, and the root flag is on the last compression of all.
-pub(crate) fn finish(s: Parts) -> [u8; 32]
-    requires { Counted s }
-    ensures { result ≡ ended (start_of s) (flag_of s) (run_of s) }
-{
-    let keying = keying_of(s.keyed, s.key);
-    let n = chunks_before(s.total);
-    let held = s.held as usize;
-    let flags = opening(keying.flag, s.total) + CHUNK_END + root_flag(s.stacked);
-    let v = compress(s.chain, load(&s.block[..held]), n, s.held as u32, flags);
-    unload(root(keying, &s.stack, s.stacked, v))
+impl Sound {
+    // A part that has room in the block.
+    fn put_in(self, part: &[u8]) -> Parts
+        requires { self.state.held + length part.now ≤ 64 }
+        ensures { result ≡ stored self.state.keyed self.state.key (put (run_of self.state) part.now) }
+    {
+        let s = self.state;
+        let mut stack = s.stack;
+        clear(&mut stack, 8 * (s.stacked as usize));
+        let more = part.len() as u64;
+        Parts {
+            total: s.total + more,
+            held: s.held + more,
+            stack,
+            block: block_with(s.block, s.held as usize, part),
+            ..s
+        }
+    }
+
+    // A part that fills the block, with bytes that follow.
+    fn fill(self, part: &[u8]) -> Parts
+        requires { (0 < self.state.held) × (64 < self.state.held + length part.now) × (self.state.total + length part.now ≤ 2 ^ 40) }
+        ensures { result ≡ stored self.state.keyed self.state.key (taken (start_of self.state) (flag_of self.state) (run_of self.state) part.now) }
+    {
+        let s = self.state;
+        let mut stack = s.stack;
+        let held = s.held as usize;
+        let space = 64 - held;
+        let full = block_with(s.block, held, &part[..space]);
+        let chain = s.chain;
+        let before = Run {
+            chain,
+            stacked: s.stacked,
+            total: s.total + (space as u64),
+        };
+        let run = go_on(keying_of(s.keyed, s.key), before, &mut stack, &full);
+        let chain = run.chain;
+        let next = Parts {
+            total: run.total,
+            held: 0,
+            stacked: run.stacked,
+            chain,
+            stack,
+            ..s
+        };
+        take_on(next, &part[space..])
+    }
+
+    // A part of one byte or more.
+    pub(crate) fn take_in(self, part: &[u8]) -> Parts
+        requires { (0 < length part.now) × (self.state.total + length part.now ≤ 2 ^ 40) }
+        ensures { result ≡ stored self.state.keyed self.state.key (taken (start_of self.state) (flag_of self.state) (run_of self.state) part.now) }
+    {
+        let s = self.state;
+        if part.len() <= 64 - s.held as usize {
+            return self.put_in(part);
+        }
+        if s.held == 0 {
+            return take_on(s, part);
+        }
+        self.fill(part)
+    }
+
+    // The digest: the last block ends its chunk, and the root flag is on the last compression of all.
+    pub(crate) fn finish(self) -> [u8; 32]
+        ensures { result ≡ ended (start_of self.state) (flag_of self.state) (run_of self.state) }
+    {
+        let s = self.state;
+        let keying = keying_of(s.keyed, s.key);
+        let n = chunks_before(s.total);
+        let held = s.held as usize;
+        let flags = opening(keying.flag, s.total) + CHUNK_END + root_flag(s.stacked);
+        let v = compress(s.chain, load(&s.block[..held]), n, s.held as u32, flags);
+        unload(root(keying, &s.stack, s.stacked, v))
+    }
 }
