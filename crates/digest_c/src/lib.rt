@@ -12,8 +12,7 @@ pub extern "C" fn digest_c_of(mode: &[u8; 36], bytes: &[u8], out: &mut [u8; 32])
     ensures { out.new ≡ digest_in mode.now bytes.now }
 {
     let d = digest::digest_of(mode, bytes);
-    let b = d.bytes;
-    *out = b;
+    out.copy_from_slice(&d.bytes);
 }
 
 // The digest of two digests, left then right, into out.
@@ -27,6 +26,5 @@ pub extern "C" fn digest_c_pair(
     ensures { out.new ≡ digest_in mode.now (left.now ++ right.now) }
 {
     let d = digest::digest_of_pair(mode, Digest { bytes: *left }, Digest { bytes: *right });
-    let b = d.bytes;
-    *out = b;
+    out.copy_from_slice(&d.bytes);
 }

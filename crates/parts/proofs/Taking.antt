@@ -1,23 +1,21 @@
 -- What a part makes of a state, as it is stored.
 use mathlib.Core.Path.{◌≡◌, refl, sym, ap, ap₂, ◌∙◌}
 use mathlib.Core.List.{List, ◌++◌, append-nil}
-use Prim.Native.Nat.{ℕ, ◌+◌, ◌-◌, ◌*◌, ◌/◌, ◌^◌, ◌≤◌, ◌<◌}
+use Prim.Native.Nat.{ℕ, ◌+◌, ◌-◌, ◌*◌, ◌^◌, ◌≤◌, ◌<◌}
 use native.Mathlib.Omega.{arith}
-use lib.Count.{ones}
 use lib.ListN.{length, take, drop, length-append, length-drop, take-append-drop}
 use lib.Seq.{length-take-le, take_all}
 use Rattle.blake.specs.Modes.{flag_in}
 use Rattle.wire.specs.Slices.{zeros}
-use Rattle.parts_rule.specs.Subtrees.{finished}
 use Rattle.parts_rule.specs.Run.{between, put, flushed, taken}
 use Rattle.parts_rule.proofs.Puts.{taken_put, taken_filled}
 use Rattle.parts.specs.declared.Parts.{Parts}
 use Rattle.parts_rule.specs.Counts.{held_of}
 use Rattle.parts_rule.specs.Stack.{subtrees, padded}
 use Rattle.parts.specs.State.{start_in, start_of, flag_of, Counted, run_of, stored}
-use Rattle.parts_rule.specs.Steps.{Full, full_run, Gone, Ready, Went}
+use Rattle.parts_rule.specs.Steps.{full_run, Gone, Went}
 use Rattle.parts_rule.proofs.Places.{subtrees_length, joined_take}
-use Rattle.parts_rule.proofs.Counts.{held_low, filled_held, filled_before, none_held}
+use Rattle.parts_rule.proofs.Counts.{held_low}
 
 -- fields are those of a run with these bytes in the block
 abbrev pub fields : ℕ → ℕ → ℕ → ℕ → List ℕ → List ℕ → List ℕ → List ℕ → Parts
@@ -58,44 +56,19 @@ module _ (s : Parts) (part : List ℕ) (size : length s.block ≡ 64) (g : Count
   pub takes_put : s.held + length part ≤ 64 → put (run_of s) part ≡ taken (start_of s) (flag_of s) (run_of s) part
   takes_put l = sym (taken_put (start_of s) (flag_of s) (run_of s) part (omega (arith, held_is)))
 
--- ---- a part on a state that holds no byte
-
-module _ (s : Parts) (part : List ℕ) (g : Counted s) (none : s.held ≡ 0) (limit : s.total + length part ≤ 2 ^ 40) where
-  zero_total : s.total ≡ 0
-  zero_total = none_held s.total (sym g.held ∙ none)
-
-  pub none_ready : Ready s.stacked s.total (length part)
-  none_ready =
-      record {
-        even = omega (arith, zero_total);
-        count = g.stacked ∙ ap ones (let e : finished s.total ≡ s.total / 1024 = omega (arith, zero_total) in e);
-        limit = limit;
-      }
-
-  pub takes_none : taken (start_of s) (flag_of s) (between (subtrees s.stack s.stacked) s.chain s.total) part
-      ≡ taken (start_of s) (flag_of s) (run_of s) part
-  takes_none =
-      ap (λ (n : ℕ). taken (start_of s) (flag_of s)
-      (record { stack = subtrees s.stack s.stacked; chain = s.chain; block = take n s.block; total = s.total }) part)
-      (sym none)
-
 -- ---- a part that begins between two blocks
 
 module _ (keyed : ℕ) (key chain ws : List ℕ) (stacked total : ℕ) (part : List ℕ) {start : List ℕ} {flag : ℕ} (es : start ≡ start_in keyed key)
     (ef : flag ≡ flag_in keyed) where
-  pub takes_on : {ws' chain' words block : List ℕ} {stacked' at : ℕ} → Went start flag chain ws stacked total part ws' chain' stacked' at
-      → length part ≤ at + 64 → words ≡ padded (length ws') (take (8 * stacked') ws') → block ≡ padded 64 (take (length part - at) (drop at part))
-      → fields (total + length part) (length part - at) stacked' keyed key chain' words block
+  pub takes_on : {ws' chain' words block rest : List ℕ} {stacked' total' : ℕ}
+      → Went start flag chain ws stacked total part ws' chain' stacked' total' rest → length rest ≤ 64
+      → words ≡ padded (length ws') (take (8 * stacked') ws') → block ≡ padded 64 rest
+      → fields (total' + length rest) (length rest) stacked' keyed key chain' words block
       ≡ stored keyed key (taken (start_in keyed key) (flag_in keyed) (between (subtrees ws stacked) chain total) part)
-  takes_on {ws'} {chain'} {words} {block} {stacked'} {at} w few ew eb =
-      let low : at < length part = w.low in
-      let rest = drop at part in
-      let ld : length rest ≡ length part - at = length-drop at part in
-      let here = between (subtrees ws' stacked') chain' (total + at) in
-      stores keyed key chain' ws' stacked' w.size rest (total + at + length rest) (omega arith) (sym ld) ew
-      (eb ∙ ap (padded 64) (take_all (length part - at) rest (omega arith)))
+  takes_on {ws'} {chain'} {words} {block} {rest} {stacked'} {total'} w few ew eb =
+      stores keyed key chain' ws' stacked' w.size rest (total' + length rest) refl refl ew eb
       ∙ ap (stored keyed key)
-      (sym (taken_put start flag here rest (let e : 0 + length rest ≤ 64 = omega arith in e)) ∙ sym w.is
+      (sym (taken_put start flag (between (subtrees ws' stacked') chain' total') rest (let e : 0 + length rest ≤ 64 = omega arith in e)) ∙ sym w.is
       ∙ ap₂ (λ (k : List ℕ) (f : ℕ). taken k f (between (subtrees ws stacked) chain total) part) es ef)
 
 -- ---- a part that fills the block, with bytes that follow
@@ -114,16 +87,8 @@ module _ (s : Parts) (part : List ℕ) (size : length s.block ≡ 64) (g : Count
   to_full : held_of s.total + space ≡ 64
   to_full = omega (arith, g.held, held)
 
-  pub space_length : length (take space part) ≡ space
+  space_length : length (take space part) ≡ space
   space_length = length-take-le space part (omega (arith, held))
-
-  pub fills_full : Full (s.total + space) s.stacked
-  fills_full =
-      record {
-        limit = omega (arith, held);
-        held = filled_held s.total space held_one to_full;
-        high = g.stacked ∙ ap ones (filled_before s.total space held_one to_full);
-      }
 
   -- the block as it is filled
   abbrev filled : List ℕ
@@ -137,19 +102,20 @@ module _ (s : Parts) (part : List ℕ) (size : length s.block ≡ 64) (g : Count
   filled_is : {full : List ℕ} → full ≡ padded 64 filled → full ≡ filled
   filled_is e = e ∙ ap (λ (n : ℕ). filled ++ zeros n) (let z : 64 - length filled ≡ 0 = omega (arith, filled_length) in z) ∙ append-nil filled
 
-  pub fills : {start : List ℕ} {flag : ℕ} {full ws' chain' : List ℕ} {stacked' : ℕ} {r : Parts} → start ≡ start_of s → flag ≡ flag_of s
+  pub fills : {start : List ℕ} {flag : ℕ} {full ws' chain' : List ℕ} {stacked' total' : ℕ} {r : Parts} → start ≡ start_of s → flag ≡ flag_of s
       → full ≡ padded 64 filled → Gone start flag s.chain s.stack s.stacked (s.total + space) full ws' chain' stacked'
+      → total' ≡ s.total + space
       → r ≡ stored s.keyed s.key
-      (taken (start_of s) (flag_of s) (between (subtrees ws' stacked') chain' (s.total + space)) (take (length part - space) (drop space part)))
+      (taken (start_of s) (flag_of s) (between (subtrees ws' stacked') chain' total') (take (length part - space) (drop space part)))
       → r ≡ stored s.keyed s.key (taken (start_of s) (flag_of s) (run_of s) part)
-  fills {start} {flag} {full} {ws'} {chain'} {stacked'} {r} es ef eb gone er =
+  fills {start} {flag} {full} {ws'} {chain'} {stacked'} {total'} {r} es ef eb gone et er =
       let xs = take space part in
       let ys = drop space part in
       let ly : length ys ≡ length part - space = length-drop space part in
       let whole : put (run_of s) xs ≡ full_run s.chain s.stack s.stacked (s.total + space) full =
       ap₂ (λ (n : ℕ) (bs : List ℕ). full_run s.chain s.stack s.stacked (s.total + n) bs) space_length (sym (filled_is eb)) in
-      let went : between (subtrees ws' stacked') chain' (s.total + space) ≡ flushed (start_of s) (flag_of s) (put (run_of s) xs) =
-      gone.is ∙ ap₂ (λ (k : List ℕ) (f : ℕ). flushed k f (full_run s.chain s.stack s.stacked (s.total + space) full)) es ef
+      let went : between (subtrees ws' stacked') chain' total' ≡ flushed (start_of s) (flag_of s) (put (run_of s) xs) =
+      ap (between (subtrees ws' stacked') chain') et ∙ gone.is ∙ ap₂ (λ (k : List ℕ) (f : ℕ). flushed k f (full_run s.chain s.stack s.stacked (s.total + space) full)) es ef
       ∙ ap (flushed (start_of s) (flag_of s)) (sym whole) in
       er
       ∙ ap (stored s.keyed s.key)

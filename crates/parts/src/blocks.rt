@@ -11,11 +11,12 @@ use subtrees::counts::chunks_before;
 use subtrees::push;
 use words::load;
 
-// The chaining words, and how many subtrees the stack has.
-#[derive(Drop)]
-pub(crate) struct Onward {
+// Where a state stands: the open chunk's chaining words, how many subtrees its stack has, and how many bytes came in all.
+#[derive(Clone, Copy)]
+pub(crate) struct Run {
     pub(crate) chain: [u32; 8],
     pub(crate) stacked: u32,
+    pub(crate) total: u64,
 }
 
 // The first n bytes of a block, a run of bytes behind them, and zeros.
@@ -42,31 +43,23 @@ pub(crate) fn opening(flag: u8, total: u64) -> u32
 }
 
 // A full block that bytes follow, the last of a total: it is compressed, and where it ends its chunk, the chunk's value goes on the stack.
-pub(crate) fn go_on(
-    keying: Keying,
-    chain: [u32; 8],
-    stack: &mut [u32],
-    stacked: u32,
-    total: u64,
-    block: &[u8],
-) -> Onward
-    requires { (length stack.old ≡ 240) × (length block.now ≡ 64) × Full total stacked }
-    ensures { Gone keying.words keying.flag chain stack.old stacked total block.now stack.new result.chain result.stacked }
+pub(crate) fn go_on(keying: Keying, run: Run, stack: &mut [u32], block: &[u8]) -> Run
+    requires { (length stack.old ≡ 240) × (length block.now ≡ 64) × Full run.total run.stacked }
+    ensures { Gone keying.words keying.flag run.chain stack.old run.stacked run.total block.now stack.new result.chain result.stacked
+        × (result.total ≡ run.total) }
 {
-    let n = chunks_before(total);
-    let flags = opening(keying.flag, total);
-    if total - 1024 * n == 1024 {
-        let v = compress(chain, load(block), n, 64, flags + CHUNK_END);
-        let count = push(keying, stack, stacked, n + 1, v);
-        let start = keying.words;
-        return Onward {
-            chain: start,
-            stacked: count,
+    let n = chunks_before(run.total);
+    let flags = opening(keying.flag, run.total);
+    if run.total - 1024 * n == 1024 {
+        let v = compress(run.chain, load(block), n, 64, flags + CHUNK_END);
+        let chain = keying.words;
+        let stacked = push(keying, stack, run.stacked, n + 1, v);
+        return Run {
+            chain,
+            stacked,
+            ..run
         };
     }
-    let next = compress(chain, load(block), n, 64, flags);
-    Onward {
-        chain: next,
-        stacked,
-    }
+    let chain = compress(run.chain, load(block), n, 64, flags);
+    Run { chain, ..run }
 }

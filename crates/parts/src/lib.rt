@@ -6,11 +6,13 @@ ghost use Rattle.parts.specs.Answers.{begin_outcome, add_outcome, added, end_out
 
 mod blocks;
 mod modes;
+mod sound;
 mod take;
 
 use digest::Digest;
 use refusals::Refused;
-use subtrees::counts::{MOST, counted};
+use sound::Sound;
+use subtrees::counts::MOST;
 
 // A state, as C lays it out, without padding: how many bytes came in all, how many of them the block holds, and how many subtrees the stack; the mode, whose
 // number is 0 for plain and any other for keyed, and its key's words; the open chunk's chaining words; the stack of finished subtrees; the block.
@@ -40,23 +42,22 @@ pub fn begin(mode: &[u8; 36]) -> Parts
 pub fn add(state: Parts, part: &[u8]) -> Result<Parts, Refused>
     ensures { added state result ≡ add_outcome state part.now }
 {
-    let total = state.total;
-    counted(total, state.held, state.stacked)?;
-    if MOST - total < (part.len() as u64) {
+    let sound = Sound::of(state)?;
+    if MOST - sound.state.total < (part.len() as u64) {
         return Err(Refused::PartsTooLong);
     }
-    if part.len() == 0 {
+    if part.is_empty() {
         return Ok(state);
     }
-    Ok(take::take_in(state, part))
+    Ok(sound.take_in(part))
 }
 
 // The digest of what a state holds. The state stays as it is, and more may be added.
 pub fn end(state: Parts) -> Result<Digest, Refused>
     ensures { ended_in result ≡ end_outcome state }
 {
-    counted(state.total, state.held, state.stacked)?;
+    let sound = Sound::of(state)?;
     Ok(Digest {
-        bytes: take::finish(state),
+        bytes: sound.finish(),
     })
 }

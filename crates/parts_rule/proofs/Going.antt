@@ -1,11 +1,11 @@
 -- A block that has gone on, and steps through a part, as runs.
-use mathlib.Core.Path.{◌≡◌, refl, sym, ap, ap₂, ◌∙◌}
+use mathlib.Core.Path.{◌≡◌, sym, ap, ap₂, ◌∙◌}
 use mathlib.Core.List.{List, ◌++◌}
 use Prim.Native.Nat.{ℕ, ◌+◌, ◌-◌, ◌*◌, ◌/◌, ◌%◌, ◌^◌, ◌≤◌, ◌<◌}
 use native.Mathlib.Omega.{arith}
 use lib.Count.{ones}
 use lib.ListN.{length, take, drop, length-drop, take-append-drop}
-use lib.Seq.{length-take-le, drop-drop}
+use lib.Seq.{length-take-le}
 use Rattle.wire.proofs.Lists.{rest_all}
 use Rattle.compression.specs.Compression.{compressed}
 use Rattle.words.specs.Words.{words_of}
@@ -70,10 +70,14 @@ module _ (key : List ℕ) (flag : ℕ) (chain stack : List ℕ) (stacked total :
   abbrev now : Run
   now = between (subtrees stack stacked) chain total
 
+  -- what is left behind n bytes
+  left_length : (n : ℕ) → length (take (length part - n) (drop n part)) ≡ length part - n
+  left_length n = ap length (rest_all n part) ∙ length-drop n part
+
   -- one block
   pub went_block : {stack' chain' : List ℕ} {stacked' : ℕ} → 64 < length part
       → Gone key flag chain stack stacked (total + 64) (take 64 part) stack' chain' stacked'
-      → Went key flag chain stack stacked total part stack' chain' stacked' 64
+      → Went key flag chain stack stacked total part stack' chain' stacked' (total + 64) (take (length part - 64) (drop 64 part))
   went_block {stack'} {chain'} {stacked'} l g =
       let xs = take 64 part in
       let ys = drop 64 part in
@@ -82,14 +86,15 @@ module _ (key : List ℕ) (flag : ℕ) (chain stack : List ℕ) (stacked total :
       ap (λ (j : ℕ). full_run chain stack stacked (total + j) xs) lx in
       record {
         size = g.size;
-        low = l;
-        even = refl;
+        some = omega (arith, left_length 64);
+        whole = omega (arith, left_length 64);
+        even = omega (arith, ready.even);
         count = g.count;
         is =
             ap (taken key flag now) (sym (take-append-drop 64 part))
             ∙ taken_filled key flag now xs ys (let e : 0 + length xs ≡ 64 = omega arith in e) (omega (arith, length-drop 64 part))
             ∙ ap (λ (q : Run). taken key flag (flushed key flag q) ys) whole
-            ∙ ap (λ (q : Run). taken key flag q ys) (sym g.is);
+            ∙ ap₂ (taken key flag) (sym g.is) (sym (rest_all 64 part));
       }
 
   module _ (even : total % 1024 ≡ 0) where
@@ -102,14 +107,15 @@ module _ (key : List ℕ) (flag : ℕ) (chain stack : List ℕ) (stacked total :
     -- one chunk
     pub went_chunk : {stack' v : List ℕ} {count : ℕ} → 1024 < length part → v ≡ chunked chain flag 0 c (take 1024 part)
         → length stack' ≡ 240 → count ≡ ones (c + 1) → subtrees stack' count ≡ pushed key flag (ones (c + 1) - 1) (subtrees stack stacked) v
-        → Went key flag chain stack stacked total part stack' key count 1024
+        → Went key flag chain stack stacked total part stack' key count (total + 1024) (take (length part - 1024) (drop 1024 part))
     went_chunk {stack'} {v} {count} l ev ls ec ep =
         let xs = take 1024 part in
         let ys = drop 1024 part in
         record {
           size = ls;
-          low = l;
-          even = refl;
+          some = omega (arith, left_length 1024);
+          whole = omega (arith, left_length 1024);
+          even = omega (arith, ready.even);
           count = ec ∙ ap ones (let e : c + 1 ≡ (total + 1024) / 1024 = omega arith in e);
           is =
               ap₂ (λ (t : ℕ) (bs : List ℕ). taken key flag (between (subtrees stack stacked) chain t) bs) (sym starts)
@@ -117,13 +123,14 @@ module _ (key : List ℕ) (flag : ℕ) (chain stack : List ℕ) (stacked total :
               ∙ whole_chunk key flag c (subtrees stack stacked) chain xs ys (length-take-le 1024 part (omega arith))
               (omega (arith, length-drop 1024 part))
               ∙ ap₂ (λ (s : List (List ℕ)) (t : ℕ). taken key flag (between s key (t + 1024)) ys)
-              (ap (pushed key flag (ones (c + 1) - 1) (subtrees stack stacked)) (sym ev) ∙ sym ep) starts;
+              (ap (pushed key flag (ones (c + 1) - 1) (subtrees stack stacked)) (sym ev) ∙ sym ep) starts
+              ∙ ap (taken key flag (between (subtrees stack' count) key (total + 1024))) (sym (rest_all 1024 part));
         }
 
     -- four chunks
     pub went_four : {stack' v : List ℕ} {count : ℕ} → total % 4096 ≡ 0 → 4096 < length part → chain ≡ key → v ≡ treed4 key flag 0 c (take 4096 part)
         → length stack' ≡ 240 → count ≡ ones (c + 4) → subtrees stack' count ≡ pushed key flag (ones (c + 4) - 1) (subtrees stack stacked) v
-        → Went key flag chain stack stacked total part stack' key count 4096
+        → Went key flag chain stack stacked total part stack' key count (total + 4096) (take (length part - 4096) (drop 4096 part))
     went_four {stack'} {v} {count} aligned l same ev ls ec ep =
         let xs = take 4096 part in
         let ys = drop 4096 part in
@@ -132,8 +139,9 @@ module _ (key : List ℕ) (flag : ℕ) (chain stack : List ℕ) (stacked total :
         let is-count : length (subtrees stack stacked) ≡ ones c = subtrees_length stack stacked ∙ ready.count in
         record {
           size = ls;
-          low = l;
-          even = refl;
+          some = omega (arith, left_length 4096);
+          whole = omega (arith, left_length 4096);
+          even = omega (arith, ready.even);
           count = ec ∙ ap ones (let e : c + 4 ≡ (total + 4096) / 1024 = omega arith in e);
           is =
               ap₂ (λ (t : ℕ) (bs : List ℕ). taken key flag (between (subtrees stack stacked) chain t) bs) (sym starts)
@@ -141,44 +149,16 @@ module _ (key : List ℕ) (flag : ℕ) (chain stack : List ℕ) (stacked total :
               ∙ ap (λ (w : List ℕ). taken key flag (between (subtrees stack stacked) w (1024 * c)) (xs ++ ys)) same
               ∙ whole_four key flag c (subtrees stack stacked) (four total aligned) is-count xs lx ys (omega (arith, length-drop 4096 part))
               ∙ ap₂ (λ (s : List (List ℕ)) (t : ℕ). taken key flag (between s key (t + 4096)) ys)
-              (ap (pushed key flag (ones (c + 4) - 1) (subtrees stack stacked)) (sym (ev ∙ treed4_done key flag 0 c xs few lx)) ∙ sym ep) starts;
+              (ap (pushed key flag (ones (c + 4) - 1) (subtrees stack stacked)) (sym (ev ∙ treed4_done key flag 0 c xs few lx)) ∙ sym ep) starts
+              ∙ ap (taken key flag (between (subtrees stack' count) key (total + 4096))) (sym (rest_all 4096 part));
         }
       where
         four : (t : ℕ) → t % 4096 ≡ 0 → (t / 1024) % 4 ≡ 0
         four t e = omega arith
 
-  -- none, and one more
-  pub went_none : length stack ≡ 240 → 0 < length part → Went key flag chain stack stacked total part stack chain stacked 0
-  went_none ls l =
-      record {
-        size = ls;
-        low = l;
-        even = refl;
-        count = ready.count ∙ ap (λ (t : ℕ). ones (t / 1024)) (let e : total ≡ total + 0 = omega arith in e);
-        is = ap (λ (t : ℕ). taken key flag (between (subtrees stack stacked) chain t) part) (let e : total ≡ total + 0 = omega arith in e);
-      }
-
-  module _ {stack' chain' : List ℕ} {stacked' at : ℕ} (w : Went key flag chain stack stacked total part stack' chain' stacked' at) where
-    pub rest_length : length (take (length part - at) (drop at part)) ≡ length part - at
-    rest_length = ap length (rest_all at part) ∙ length-drop at part
-
-    pub went_ready : Ready stacked' (total + at) (length (take (length part - at) (drop at part)))
-    went_ready =
-        let low : at < length part = w.low in
-        record { even = omega (arith, ready.even, w.even); count = w.count; limit = omega (arith, rest_length, ready.limit) }
-
-    pub went_more : {stack'' chain'' : List ℕ} {stacked'' by : ℕ}
-        → Went key flag chain' stack' stacked' (total + at) (take (length part - at) (drop at part)) stack'' chain'' stacked'' by
-        → Went key flag chain stack stacked total part stack'' chain'' stacked'' (at + by)
-    went_more {stack''} {chain''} {stacked''} {by} g =
-        let e : total + at + by ≡ total + (at + by) = omega arith in
-        record {
-          size = g.size;
-          low = omega (arith, g.low, w.low, rest_length);
-          even = omega (arith, g.even, w.even);
-          count = g.count ∙ ap (λ (t : ℕ). ones (t / 1024)) e;
-          is =
-              w.is ∙ ap (taken key flag (between (subtrees stack' stacked') chain' (total + at))) (sym (rest_all at part)) ∙ g.is
-              ∙ ap₂ (λ (t : ℕ) (bs : List ℕ). taken key flag (between (subtrees stack'' stacked'') chain'' t) bs) e
-              (ap (drop by) (rest_all at part) ∙ drop-drop by at part);
-        }
+  -- one more
+  pub went_more : {stack' chain' rest stack'' chain'' rest' : List ℕ} {stacked' total' stacked'' total'' : ℕ}
+      → Went key flag chain stack stacked total part stack' chain' stacked' total' rest
+      → Went key flag chain' stack' stacked' total' rest stack'' chain'' stacked'' total'' rest'
+      → Went key flag chain stack stacked total part stack'' chain'' stacked'' total'' rest'
+  went_more w g = record { size = g.size; some = g.some; whole = g.whole ∙ w.whole; even = g.even; count = g.count; is = w.is ∙ g.is }

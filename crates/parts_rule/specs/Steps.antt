@@ -1,5 +1,5 @@
 -- What the code's own steps are called, which no public contract cites.
-use Rattle.std.specs.Prelude.{◌≡◌, List, ℕ, ◌+◌, ◌/◌, ◌%◌, ◌^◌, ◌≤◌, ◌<◌, length, drop}
+use Rattle.std.specs.Prelude.{◌≡◌, List, ℕ, ◌+◌, ◌/◌, ◌%◌, ◌^◌, ◌≤◌, ◌<◌, length}
 use Rattle.std.specs.Int.Count.{ones}
 use Rattle.parts_rule.specs.Run.{Run, between, flushed, taken}
 use Rattle.parts_rule.specs.Counts.{held_of, stacked_of}
@@ -34,11 +34,13 @@ pub record Ready (stacked total len : ℕ) : Type 0 where
   pub count : stacked ≡ ones (total / 1024)
   pub limit : total + len ≤ 2 ^ 40
 
--- whole blocks of a part are taken, and some bytes are left: what is left does then what the part did before
-pub record Went (key : List ℕ) (flag : ℕ) (chain stack : List ℕ) (stacked total : ℕ) (part stack' chain' : List ℕ) (stacked' by : ℕ) : Type 0 where
+-- whole blocks of a part are taken, and some bytes are left, the rest: it does then what the part did before
+pub record Went (key : List ℕ) (flag : ℕ) (chain stack : List ℕ) (stacked total : ℕ) (part stack' chain' : List ℕ) (stacked' total' : ℕ)
+    (rest : List ℕ) : Type 0 where
   pub size : length stack' ≡ 240
-  pub low : by < length part
-  pub even : by % 64 ≡ 0
-  pub count : stacked' ≡ ones ((total + by) / 1024)
+  pub some : 0 < length rest
+  pub whole : total' + length rest ≡ total + length part
+  pub even : total' % 64 ≡ 0
+  pub count : stacked' ≡ ones (total' / 1024)
   pub is : taken key flag (between (subtrees stack stacked) chain total) part
-      ≡ taken key flag (between (subtrees stack' stacked') chain' (total + by)) (drop by part)
+      ≡ taken key flag (between (subtrees stack' stacked') chain' total') rest

@@ -1,34 +1,33 @@
 -- The two refusals, a part of no bytes, and a part.
-use Rattle.std.proofs.Common.{sym, ap, ◌∙◌, arith}
+use Rattle.std.proofs.Common.{◌≡◌, length, ap, subst, ◌∙◌, arith, rules}
 use Rattle.std.proofs.lemmas.Result.{err_from_is_err_and}
-use Rattle.refusals.specs.Numbers.{number_in}
 use Rattle.refusals.proofs.Laws.{number_above}
-use Rattle.parts.proofs.Answering.{is_counted, add_refused_lem, add_passed, add_done, after_none, after_some}
+use Rattle.parts.specs.declared.Parts.{Parts}
+use Rattle.parts.specs.State.{Counted}
+use Rattle.parts.specs.Answers.{after}
+use Rattle.parts.proofs.Answering.{add_refused_lem, add_passed, add_done, after_none, after_some}
 use Rattle.parts.proofs.add.Goals as goal
 
-pub returns-in_err-counted : goal.returns-in_err-counted
-returns-in_err-counted c =
+pub returns-in_err-sound : goal.returns-in_err-sound
+returns-in_err-sound c =
     let p = err_from_is_err_and c.from_residual.result c.from_residual.ensures.1 in
-    rw (p.1, p.2) (add_refused_lem c.args.state c.args.part.now (sym (ap number_in c.in_err-counted.was) ∙ c.counted.ensures) (number_above c.in_err-counted.field-0.0))
+    rw (p.1, p.2) (add_refused_lem c.args.state c.args.part.now c.in_err-sound.ensures.number (number_above c.in_err-sound.field-0.0))
 
-pub overflow_sub-total : goal.overflow_sub-total
-overflow_sub-total c = (is_counted c.args.state (sym c.counted.ensures ∙ ap number_in c.in_ok-counted.was)).limit
+pub returns-then-sound-part : goal.returns-then-sound-part
+returns-then-sound-part c =
+    let same = ap (λ (s : Parts). s.total) c.in_ok-sound.ensures.same in
+    add_passed c.args.state c.args.part.now (omega (arith, same, c.if-sound-part.true))
 
-pub returns-then-total-part : goal.returns-then-total-part
-returns-then-total-part c = add_passed c.args.state c.args.part.now (omega (arith, c.if-total-part.true))
-
-pub returns-then-part-eq0 : goal.returns-then-part-eq0
-returns-then-part-eq0 c =
-    let g = is_counted c.args.state (sym c.counted.ensures ∙ ap number_in c.in_ok-counted.was) in
-    add_done c.args.state c.args.part.now g (omega (arith, c.if-part-eq0.true, g.limit)) (after_none c.args.state c.args.part.now c.if-part-eq0.true)
-
-pub take_in-requires : goal.take_in-requires
-take_in-requires c =
-    let g = is_counted c.args.state (sym c.counted.ensures ∙ ap number_in c.in_ok-counted.was) in
-    (g, omega (arith, c.if-part-eq0.false), omega (arith, c.if-total-part.false, g.limit))
+pub returns-then-is_empty : goal.returns-then-is_empty
+returns-then-is_empty c =
+    let none : length c.args.part.now ≡ 0 = search (rules, c.is_empty.ensures, c.if-is_empty.true) in
+    let g = subst Counted c.in_ok-sound.ensures.same c.in_ok-sound.sound.counts in
+    add_done c.args.state c.args.part.now g (omega (arith, none, g.limit)) (after_none c.args.state c.args.part.now none)
 
 pub returns : goal.returns
 returns c =
-    let g = is_counted c.args.state (sym c.counted.ensures ∙ ap number_in c.in_ok-counted.was) in
-    add_done c.args.state c.args.part.now g (omega (arith, c.if-total-part.false, g.limit))
-    (c.take_in.ensures ∙ after_some c.args.state c.args.part.now (omega (arith, c.if-part-eq0.false)))
+    let s = c.in_ok-sound in
+    let same = ap (λ (s : Parts). s.total) s.ensures.same in
+    let g = subst Counted s.ensures.same s.sound.counts in
+    add_done c.args.state c.args.part.now g (omega (arith, same, c.if-sound-part.false, g.limit))
+    (c.take_in.ensures ∙ after_some s.sound.state c.args.part.now (search (rules, arith, c.is_empty.ensures, c.if-is_empty.false)) ∙ ap (λ (s : Parts). after s c.args.part.now) s.ensures.same)

@@ -1,11 +1,12 @@
 -- What each turn of the loop of `steps` keeps, and what falls.
-use Prim.Native.Nat.{◌-◌}
 use lib.ListN.{length}
 use Rattle.parts_rule.specs.Steps.{Went}
 use Rattle.parts.proofs.take.steps.Given as goal
 
-abbrev pub invariant-loop-at : goal.invariant-loop-at
-invariant-loop-at l = Went l.keying.words l.keying.flag l.initial.words l.initial.stack l.stacked l.total l.part l.stack l.words l.count l.at
+abbrev pub invariant-loop-rest : goal.invariant-loop-rest
+invariant-loop-rest l =
+    let i = l.initial in
+    Went l.keying.words l.keying.flag i.at.chain i.stack i.at.stacked i.at.total l.part l.stack l.at.chain l.at.stacked l.at.total l.rest
 
-abbrev pub decreases-loop-at : goal.decreases-loop-at
-decreases-loop-at l = length l.part - l.at
+abbrev pub decreases-loop-rest : goal.decreases-loop-rest
+decreases-loop-rest l = length l.rest

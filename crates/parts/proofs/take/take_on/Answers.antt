@@ -4,9 +4,7 @@ use Rattle.parts.proofs.take.take_on.Goals as goal
 
 pub returns : goal.returns
 returns c =
-    let a = c.args in
-    let w = c.steps-w.ensures in
-    takes_on a.s.keyed a.s.key a.s.chain a.s.stack a.s.stacked a.s.total a.part.now
-    c.keying_of-keying.ensures.words
-    c.keying_of-keying.ensures.flag
-    w.0 w.1 c.clear.ensures c.block_with-block.ensures
+    let s = c.args.s in
+    let w = c.steps.ensures in
+    takes_on s.keyed s.key s.chain s.stack s.stacked s.total c.args.part.now c.keying_of.ensures.words c.keying_of.ensures.flag w.0 w.1
+    c.clear.ensures c.block_with.ensures
