@@ -115,7 +115,8 @@ module _ (s : Parts) (part : List ℕ) (size : length s.block ≡ 64) (g : Count
       let whole : put (run_of s) xs ≡ full_run s.chain s.stack s.stacked (s.total + space) full =
       ap₂ (λ (n : ℕ) (bs : List ℕ). full_run s.chain s.stack s.stacked (s.total + n) bs) space_length (sym (filled_is eb)) in
       let went : between (subtrees ws' stacked') chain' total' ≡ flushed (start_of s) (flag_of s) (put (run_of s) xs) =
-      ap (between (subtrees ws' stacked') chain') et ∙ gone.is ∙ ap₂ (λ (k : List ℕ) (f : ℕ). flushed k f (full_run s.chain s.stack s.stacked (s.total + space) full)) es ef
+      ap (between (subtrees ws' stacked') chain') et ∙ gone.is
+      ∙ ap₂ (λ (k : List ℕ) (f : ℕ). flushed k f (full_run s.chain s.stack s.stacked (s.total + space) full)) es ef
       ∙ ap (flushed (start_of s) (flag_of s)) (sym whole) in
       er
       ∙ ap (stored s.keyed s.key)

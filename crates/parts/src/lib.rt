@@ -14,8 +14,9 @@ use refusals::Refused;
 use sound::Sound;
 use subtrees::counts::MOST;
 
-// A state, as C lays it out, without padding: how many bytes came in all, how many of them the block holds, and how many subtrees the stack; the mode, whose
-// number is 0 for plain and any other for keyed, and its key's words; the open chunk's chaining words; the stack of finished subtrees; the block.
+// A state, as C lays it out, without padding: how many bytes came in all, how many of them the block holds, and how many subtrees the stack; the
+// mode, whose number is 0 for plain and any other for keyed, and its key's words; the open chunk's chaining words; the stack of finished subtrees;
+// the block.
 #[repr(C)]
 #[derive(Clone, Copy)]
 pub struct Parts {

@@ -30,4 +30,5 @@ returns c =
     let same = ap (λ (s : Parts). s.total) s.ensures.same in
     let g = subst Counted s.ensures.same s.sound.counts in
     add_done c.args.state c.args.part.now g (omega (arith, same, c.if-sound-part.false, g.limit))
-    (c.take_in.ensures ∙ after_some s.sound.state c.args.part.now (search (rules, arith, c.is_empty.ensures, c.if-is_empty.false)) ∙ ap (λ (s : Parts). after s c.args.part.now) s.ensures.same)
+    (c.take_in.ensures ∙ after_some s.sound.state c.args.part.now (search (rules, arith, c.is_empty.ensures, c.if-is_empty.false))
+    ∙ ap (λ (s : Parts). after s c.args.part.now) s.ensures.same)

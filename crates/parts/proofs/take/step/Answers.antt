@@ -29,7 +29,8 @@ returns-then-run-ne0 c =
     let g = c.go_on-next in
     let w =
     went_block a.keying.words a.keying.flag r.chain a.stack.now r.stacked r.total a.part.now c.requires.1 c.requires.2 g.ensures.0 in (
-      subst (λ (t : ℕ). Went a.keying.words a.keying.flag r.chain a.stack.now r.stacked r.total a.part.now g.new.stack g.result.chain g.result.stacked t
+      subst (λ (t : ℕ). Went a.keying.words a.keying.flag r.chain a.stack.now r.stacked r.total a.part.now g.new.stack g.result.chain
+          g.result.stacked t
           (take (length a.part.now - 64) (drop 64 a.part.now))) (sym g.ensures.1) w,
       omega (arith, w.whole),
     )
