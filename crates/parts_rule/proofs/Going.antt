@@ -5,7 +5,7 @@ use Prim.Native.Nat.{ℕ, ◌+◌, ◌-◌, ◌*◌, ◌/◌, ◌%◌, ◌^◌, 
 use native.Mathlib.Omega.{arith}
 use lib.Count.{ones}
 use lib.ListN.{length, take, drop, length-drop, take-append-drop}
-use lib.Seq.{length-take-le}
+use lib.Seq.{length-take-le, drop-drop}
 use Rattle.wire.proofs.Lists.{rest_all}
 use Rattle.compression.specs.Compression.{compressed}
 use Rattle.words.specs.Words.{words_of}
@@ -74,6 +74,9 @@ module _ (key : List ℕ) (flag : ℕ) (chain stack : List ℕ) (stacked total :
   left_length : (n : ℕ) → length (take (length part - n) (drop n part)) ≡ length part - n
   left_length n = ap length (rest_all n part) ∙ length-drop n part
 
+  left_behind : (n : ℕ) → take (length part - n) (drop n part) ≡ drop (total + n - total) part
+  left_behind n = rest_all n part ∙ ap (λ (k : ℕ). drop k part) (let e : n ≡ total + n - total = omega arith in e)
+
   -- one block
   pub went_block : {stack' chain' : List ℕ} {stacked' : ℕ} → 64 < length part
       → Gone key flag chain stack stacked (total + 64) (take 64 part) stack' chain' stacked'
@@ -87,6 +90,7 @@ module _ (key : List ℕ) (flag : ℕ) (chain stack : List ℕ) (stacked total :
       record {
         size = g.size;
         some = omega (arith, left_length 64);
+        behind = left_behind 64;
         whole = omega (arith, left_length 64);
         even = omega (arith, ready.even);
         count = g.count;
@@ -114,6 +118,7 @@ module _ (key : List ℕ) (flag : ℕ) (chain stack : List ℕ) (stacked total :
         record {
           size = ls;
           some = omega (arith, left_length 1024);
+          behind = left_behind 1024;
           whole = omega (arith, left_length 1024);
           even = omega (arith, ready.even);
           count = ec ∙ ap ones (let e : c + 1 ≡ (total + 1024) / 1024 = omega arith in e);
@@ -140,6 +145,7 @@ module _ (key : List ℕ) (flag : ℕ) (chain stack : List ℕ) (stacked total :
         record {
           size = ls;
           some = omega (arith, left_length 4096);
+          behind = left_behind 4096;
           whole = omega (arith, left_length 4096);
           even = omega (arith, ready.even);
           count = ec ∙ ap ones (let e : c + 4 ≡ (total + 4096) / 1024 = omega arith in e);
@@ -161,4 +167,17 @@ module _ (key : List ℕ) (flag : ℕ) (chain stack : List ℕ) (stacked total :
       → Went key flag chain stack stacked total part stack' chain' stacked' total' rest
       → Went key flag chain' stack' stacked' total' rest stack'' chain'' stacked'' total'' rest'
       → Went key flag chain stack stacked total part stack'' chain'' stacked'' total'' rest'
-  went_more w g = record { size = g.size; some = g.some; whole = g.whole ∙ w.whole; even = g.even; count = g.count; is = w.is ∙ g.is }
+  went_more {rest = rest} {total' = total'} {total'' = total''} w g =
+      let a : length rest ≡ length part - (total' - total) = ap length w.behind ∙ length-drop (total' - total) part in
+      let b = ap length g.behind ∙ length-drop (total'' - total') rest in
+      record {
+        size = g.size;
+        some = g.some;
+        behind =
+            g.behind ∙ ap (drop (total'' - total')) w.behind ∙ drop-drop (total'' - total') (total' - total) part
+            ∙ ap (λ (k : ℕ). drop k part) (let e : total' - total + (total'' - total') ≡ total'' - total = omega (arith, a, b, w.whole, g.whole) in e);
+        whole = g.whole ∙ w.whole;
+        even = g.even;
+        count = g.count;
+        is = w.is ∙ g.is;
+      }

@@ -1,5 +1,5 @@
 -- What the code's own steps are called, which no public contract cites.
-use Rattle.std.specs.Prelude.{◌≡◌, List, ℕ, ◌+◌, ◌/◌, ◌%◌, ◌^◌, ◌≤◌, ◌<◌, length}
+use Rattle.std.specs.Prelude.{◌≡◌, List, ℕ, ◌+◌, ◌-◌, ◌/◌, ◌%◌, ◌^◌, ◌≤◌, ◌<◌, length, drop}
 use Rattle.std.specs.Int.Count.{ones}
 use Rattle.parts_rule.specs.Run.{Run, between, flushed, taken}
 use Rattle.parts_rule.specs.Counts.{held_of, stacked_of}
@@ -39,6 +39,7 @@ pub record Went (key : List ℕ) (flag : ℕ) (chain stack : List ℕ) (stacked 
     (rest : List ℕ) : Type 0 where
   pub size : length stack' ≡ 240
   pub some : 0 < length rest
+  pub behind : rest ≡ drop (total' - total) part
   pub whole : total' + length rest ≡ total + length part
   pub even : total' % 64 ≡ 0
   pub count : stacked' ≡ ones (total' / 1024)
