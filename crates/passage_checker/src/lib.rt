@@ -10,7 +10,9 @@ ghost use Rattle.passage_checker.specs.Outcome.{pass_outcome, checked, check_out
 use passage_fields::Fields;
 use refusals::Refused;
 
-// One pass over a letter, which every call makes: it is taken apart and its root worked out. Refuses as `check` does.
+// One pass over a letter, which every call makes: it is taken apart and its root worked out. Refuses as `check` does. Opened at each call, and the two
+// lists by themselves: only so is no whole answer zeroed and copied (bench/passage.sh).
+#[inline(always)]
 pub fn pass(mode: &[u8; 36], size: u64, root: &[u8], letter: &[u8]) -> Result<Fields, Refused>
     ensures { taken_apart result ≡ pass_outcome (digest_in mode.now) size root.now letter.now }
 {
@@ -19,8 +21,10 @@ pub fn pass(mode: &[u8; 36], size: u64, root: &[u8], letter: &[u8]) -> Result<Fi
         return Err(Refused::RootLength);
     }
     let f = passage_fields::take_front(size, n, letter)?;
-    let is = &f.indexes[..f.count];
-    let places = &f.places[..f.count];
+    let indexes = f.indexes;
+    let starts = f.places;
+    let is = &indexes[..f.count];
+    let places = &starts[..f.count];
     let made = passage_root::root_of(mode, n, is, letter, places, &letter[f.end..]);
     if letter.len() != f.end + 32 * (made.used as usize) {
         return Err(Refused::LetterLength);

@@ -88,7 +88,9 @@ fn refusal_at(n: u64, letter: &[u8], at: usize, floor: u64) -> Result<(), Refuse
     Ok(())
 }
 
-// So many records, one behind the other. Refuses by 7, 19, 5, 3, 7 for each in turn.
+// So many records, one behind the other. Refuses by 7, 19, 5, 3, 7 for each in turn. It and `take_front` are opened at each call: only so is no whole
+// answer zeroed and copied (bench/passage.sh).
+#[inline(always)]
 fn take_records(n: u64, letter: &[u8], count: usize) -> Result<Fields, Refused>
     requires { Ready letter.now count }
     ensures { taken_apart result ≡ records_outcome n letter.now count }
@@ -115,6 +117,7 @@ fn take_records(n: u64, letter: &[u8], count: usize) -> Result<Fields, Refused>
 
 // Takes a letter apart but for its exact length, for a log of this size with n leaves. Refuses by 7 (under 10), 8, 19; for each record 7, 19, 5, 3,
 // 7.
+#[inline(always)]
 pub fn take_front(size: u64, n: u64, letter: &[u8]) -> Result<Fields, Refused>
     ensures { taken_apart result ≡ front_outcome size n letter.now }
 {

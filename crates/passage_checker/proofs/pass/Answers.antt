@@ -5,6 +5,7 @@ use Prim.Native.Nat.{ℕ, ◌+◌, ◌*◌, ◌≤◌}
 use native.Mathlib.Omega.{arith}
 use borrow.Author.Rules.{rules}
 use lib.ListN.{length, take}
+use lib.Seq.{length-take-le}
 use Rattle.std.specs.Prelude.{Err}
 use Rattle.refusals.proofs.Laws.{number_above}
 use Rattle.wire.specs.Slices.{bit}
@@ -50,10 +51,29 @@ returns-in_err-f c =
     (front_refuses a.size (leaves a.size) a.letter.now (number_above why) (front a.size a.letter.now k c.in_err-f.ensures))
 
 -- nothing has refused it
-pub shared_ref_as_front-is : goal.shared_ref_as_front-is
-shared_ref_as_front-is c =
+pub slice_bounds-indexes-end : goal.slice_bounds-indexes-end
+slice_bounds-indexes-end c =
     let a = c.args in
-    (fronted a.size c.in_ok-n.n a.letter.now c.in_ok-f.ensures).few
+    let t = fronted a.size c.in_ok-n.n a.letter.now c.in_ok-f.ensures in
+    omega (arith, t.few, t.indexes_long)
+
+pub slice_bounds-starts-end : goal.slice_bounds-starts-end
+slice_bounds-starts-end c =
+    let a = c.args in
+    let t = fronted a.size c.in_ok-n.n a.letter.now c.in_ok-f.ensures in
+    omega (arith, t.few, t.places_long)
+
+pub slice_bounds-is-end : goal.slice_bounds-is-end
+slice_bounds-is-end c =
+    let a = c.args in
+    let t = fronted a.size c.in_ok-n.n a.letter.now c.in_ok-f.ensures in
+    sym (length-take-le c.in_ok-f.f.count c.in_ok-f.f.indexes (omega (arith, t.few, t.indexes_long)))
+
+pub slice_bounds-places-end : goal.slice_bounds-places-end
+slice_bounds-places-end c =
+    let a = c.args in
+    let t = fronted a.size c.in_ok-n.n a.letter.now c.in_ok-f.ensures in
+    sym (length-take-le c.in_ok-f.f.count c.in_ok-f.f.places (omega (arith, t.few, t.places_long)))
 
 pub slice_bounds-root_of-count : goal.slice_bounds-root_of-count
 slice_bounds-root_of-count c =
