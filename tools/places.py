@@ -84,6 +84,7 @@ def twins(files):
             if len(words) >= 18:
                 bodies.append((path, name, words))
     count = 0
+    group = {}
     for i, (path, name, words) in enumerate(bodies):
         for other_path, other, others in bodies[i + 1:]:
             if min(len(words), len(others)) * 1.25 < max(len(words), len(others)):
@@ -92,7 +93,12 @@ def twins(files):
             if alike.real_quick_ratio() > 0.86 and alike.quick_ratio() > 0.86 and alike.ratio() > 0.86:
                 count += 1
                 print(f'2 nearly one text: {path}: {name}, {other_path}: {other}')
-    return {('2', 'two functions of nearly one text'): count}
+                one, two = (group.setdefault(key, {key}) for key in ((path, name), (other_path, other)))
+                if one is not two:
+                    one |= two
+                    group.update((key, one) for key in two)
+    groups = len({id(members) for members in group.values()})
+    return {('2', 'two functions of nearly one text'): count, ('2', 'functions of nearly one text, in groups'): groups}
 
 
 def travelling(files):
