@@ -9,13 +9,16 @@ mod states;
 use runs::lines::say;
 
 fn main(rt: HostRuntime) {
+    let mode = digest::plain();
+    let plain = parts::begin(&mode);
+    let keyed = parts::begin(&digest::keyed(b"whats the Elvish word for friend").unwrap_or(mode));
     say(&rt, b"plain\n");
-    cuts::show_all(&rt, 0);
-    states::show_all(&rt, 0);
+    cuts::show_all(&rt, plain);
+    states::show_all(&rt, plain);
     say(&rt, b"keyed\n");
-    cuts::show_all(&rt, 1);
-    states::show_all(&rt, 1);
+    cuts::show_all(&rt, keyed);
+    states::show_all(&rt, keyed);
     say(&rt, b"anything\n");
-    states::show_all(&rt, 2);
-    states::show_all(&rt, 3);
+    states::show_all(&rt, states::any_state(0));
+    states::show_all(&rt, states::any_state(2147483648));
 }
