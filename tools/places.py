@@ -15,11 +15,11 @@ C_CRATES = {'digest_c', 'keeper', 'stored_c', 'letter_c', 'parts_c', 'passage_c'
 LINES = [
     ('1', 'an own enum', r'^(pub(\(crate\))? )?enum '),
     ('1', 'a number or a flag in a struct or among the parameters', r'^    (pub(\(crate\))? )?(number: u32|(apart|broken|below|fits): u(8|32)),?$'),
+    ('1', 'a number for a kind among the parameters', r'^(pub(\(crate\))? )?fn .*\b(kind|keyed|of): u32'),
     ('3', 'a loop that counts by hand', r'^ *while '),
     ('3', 'a loop over numbers', r'^ *for \w+ in .*\.\.'),
     ('4', 'a derive that is only a drop', r'^#\[derive\(Drop\)\]'),
     ('6', 'an array with a length beside, or parallel arrays', r'^    (pub )?\w+: \[\w+; (8192|1024|256|240|64)\],'),
-    ('7', 'a match on a number', r'^ *match \w+ (%|\{ *$)'),
 ]
 
 
