@@ -10,8 +10,8 @@ ghost use Rattle.passage_checker.specs.Outcome.{pass_outcome, checked, check_out
 use passage_fields::Fields;
 use refusals::Refused;
 
-// One pass over a letter, which every call makes: it is taken apart and its root worked out. Refuses as `check` does. Opened at each call, and the two
-// lists by themselves: only so is no whole answer zeroed and copied (bench/passage.sh).
+// One pass over a letter, which every call makes: it is taken apart and its root worked out. Refuses as `check` does. It is opened at each call, and
+// the two lists are lent by themselves, as in `passage_fields::take_apart`: only so is no whole answer zeroed and copied (bench/passage.sh).
 #[inline(always)]
 pub fn pass(mode: &[u8; 36], size: u64, root: &[u8], letter: &[u8]) -> Result<Fields, Refused>
     ensures { taken_apart result ≡ pass_outcome (digest_in mode.now) size root.now letter.now }

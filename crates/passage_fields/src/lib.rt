@@ -134,12 +134,14 @@ pub fn take_front(size: u64, n: u64, letter: &[u8]) -> Result<Fields, Refused>
     take_records(n, letter, count)
 }
 
-// Takes a letter apart, for a log of this size with n leaves. Refuses as `take_front` does, and then by 7 (exact).
+// Takes a letter apart, for a log of this size with n leaves. Refuses as `take_front` does, and then by 7 (exact). The indexes are lent by themselves:
+// lent as a part of the answer they would have it zeroed whole (bench/passage.sh).
 pub fn take_apart(size: u64, n: u64, letter: &[u8]) -> Result<Fields, Refused>
     ensures { taken_apart result ≡ fields_outcome size n letter.now }
 {
     let f = take_front(size, n, letter)?;
-    let digests = digest_count(n, &f.indexes[..f.count]) as usize;
+    let indexes = f.indexes;
+    let digests = digest_count(n, &indexes[..f.count]) as usize;
     if letter.len() != f.end + 32 * digests {
         return Err(Refused::LetterLength);
     }

@@ -3,7 +3,7 @@ use mathlib.Core.Path.{◌≡◌, refl, ap, ◌∙◌}
 use mathlib.Core.List.{List}
 use Prim.Native.Nat.{ℕ, ◌+◌, ◌≤◌, ◌<◌}
 use native.Mathlib.Omega.{arith}
-use lib.ListN.{length, get_or, take}
+use lib.ListN.{length, length-take, get_or, take}
 use Rattle.order.proofs.Laws.{passes, refuses, early, late}
 use Rattle.wire.specs.Slices.{splice}
 use Rattle.shape.specs.Sizes.{leaves}
@@ -17,7 +17,6 @@ use Rattle.passage_checker.specs.Outcome.{check_order, pass_outcome}
 use Rattle.passage_records.specs.Outcome.{list_refused, list_done, room_order, entries_outcome}
 use Rattle.passage_records.specs.Steps.{Listable, Listed}
 use Rattle.passage_checker.proofs.Passing.{pass_number, pass_taken}
-use Rattle.passage_checker.proofs.Worked.{counted_few}
 use Rattle.passage_records.proofs.Handing.{start_at}
 
 module _ (digest : List ℕ → List ℕ) (size : ℕ) (root letter indexes starts lengths : List ℕ) where
@@ -34,9 +33,18 @@ module _ (digest : List ℕ → List ℕ) (size : ℕ) (root letter indexes star
     taken_apart_lem : Apart size (leaves size) letter (pass_taken digest size root letter e).1
     taken_apart_lem = apart size (leaves size) letter (pass_taken digest size root letter e).1
 
-    -- the arrays have room for the records
-    pub counted : f.count ≤ 256
-    counted = counted_few size (leaves size) letter (pass_taken digest size root letter e).1
+    -- the arrays have room for the records, which stand at their front
+    pub indexes_front : f.count ≡ length (take f.count f.indexes)
+    indexes_front = omega (arith, ap length taken_apart_lem.indexes_are, indexes_count letter, taken_apart_lem.count)
+
+    pub places_front : f.count ≡ length (take f.count f.places)
+    places_front = omega (arith, ap length taken_apart_lem.places_are, places_count letter, taken_apart_lem.count)
+
+    pub indexes_room : f.count ≤ length f.indexes
+    indexes_room = omega (arith, indexes_front, length-take f.count f.indexes)
+
+    pub places_room : f.count ≤ length f.places
+    places_room = omega (arith, places_front, length-take f.count f.places)
 
     pub room_refuses : (f.count ≤ length indexes → f.count ≤ length starts → f.count ≤ length lengths → ⊥)
         → list_refused indexes starts lengths 6 ≡ entries_outcome digest size root letter indexes starts lengths
@@ -50,9 +58,6 @@ module _ (digest : List ℕ → List ℕ) (size : ℕ) (root letter indexes star
 
     -- all three have room
     module _ (a : f.count ≤ length indexes) (b : f.count ≤ length starts) (c : f.count ≤ length lengths) where
-      as_many : length (take f.count f.places) ≡ f.count
-      as_many = omega (arith, ap length taken_apart_lem.places_are, places_count letter, taken_apart_lem.count)
-
       place_inside : (k : ℕ) → k < count_in letter → get_or (places letter) k 0 + 12 ≤ length letter
       place_inside k h = omega (arith, start_at letter k h, fits_inside size (leaves size) letter taken_apart_lem.fits k)
 
@@ -60,9 +65,9 @@ module _ (digest : List ℕ → List ℕ) (size : ℕ) (root letter indexes star
       listable =
           let t = taken_apart_lem in
           record {
-            one_each = omega (arith, as_many, ap length t.indexes_are, indexes_count letter, t.count);
-            inside = λ k h. rw t.places_are (place_inside k (omega (arith, as_many, t.count)));
-            room = (omega (arith, as_many), omega (arith, as_many), omega (arith, as_many));
+            one_each = omega (arith, indexes_front, places_front);
+            inside = λ k h. rw t.places_are (place_inside k (omega (arith, places_front, t.count)));
+            room = (omega (arith, places_front), omega (arith, places_front), omega (arith, places_front));
           }
 
       pub all_listed : {i s l : List ℕ} → Listed letter (take f.count f.indexes) (take f.count f.places) indexes starts lengths i s l

@@ -20,7 +20,8 @@ pub struct Handed {
     pub length: usize,
 }
 
-// Record k of an accepted letter, counted from 0; none past the last. Refuses as `check` does.
+// Record k of an accepted letter, counted from 0; none past the last. Refuses as `check` does. Both lists are read by themselves, here and in
+// `entries`, as in `passage_checker::pass`.
 pub fn entry(
     mode: &[u8; 36],
     size: u64,
@@ -35,10 +36,12 @@ pub fn entry(
     if f.count as u64 <= k {
         return Ok(None);
     }
+    let indexes = f.indexes;
+    let places = f.places;
     let j = k as usize;
-    let at = f.places[j];
+    let at = places[j];
     Ok(Some(Handed {
-        index: f.indexes[j],
+        index: indexes[j],
         start: at + passage::FRAME,
         length: stated_at(letter, at),
     }))
@@ -95,10 +98,12 @@ pub fn entries(
     if indexes.len() < count || starts.len() < count || lengths.len() < count {
         return Err(Refused::OutputTooShort);
     }
+    let given = f.indexes;
+    let places = f.places;
     list(
         letter,
-        &f.indexes[..count],
-        &f.places[..count],
+        &given[..count],
+        &places[..count],
         indexes,
         starts,
         lengths,

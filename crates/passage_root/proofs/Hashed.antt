@@ -11,7 +11,7 @@ use Rattle.wire.specs.Slices.{part, zeros, joined, splice, written}
 use Rattle.wire.proofs.Each.{each_map}
 use Rattle.wire.proofs.Joined.{joined_length, joined_append, joined_one}
 use Rattle.wire.proofs.Parts.{part_length, part_byte}
-use Rattle.wire.proofs.Splices.{splice_length, splice_none, splice_front, written_next}
+use Rattle.wire.proofs.Splices.{splice_none, splice_front, written_next}
 use Rattle.nodes.specs.Nodes.{node_in}
 use Rattle.nodes.proofs.Joined.{node_joined}
 use Rattle.passage.specs.Bytes.{record_at}
@@ -63,14 +63,6 @@ module _ (digest : List ℕ → List ℕ) (digest_32 : (x : List ℕ) → length
       ∙ ap (λ (x : List ℕ). joined (map leaf_at (take k places)) ++ x) (joined_one (leaf_at (get_or places k 0)))
 
   module _ (places : List ℕ) where
-    pub leaves_length : length (leaf_digests digest letter places) ≡ 8192
-    unfolding leaf_digests
-    leaves_length =
-        let ps = take 256 places in
-        let room : 0 + length (joined (map leaf_at ps)) ≤ length (zeros 8192) =
-        omega (arith, rows_length ps, length-take 256 places, length-replicate {A = ℕ} 8192 0) in
-        splice_length 0 (joined (map leaf_at ps)) (zeros 8192) room ∙ length-replicate {A = ℕ} 8192 0
-
     -- none is written
     pub leaves_none : zeros 8192 ≡ leaf_digests digest letter (take 0 places)
     unfolding leaf_digests joined

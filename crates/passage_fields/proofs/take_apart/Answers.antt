@@ -1,8 +1,9 @@
 -- `passage_fields::take_apart` meets its contract: what comes before the exact length, and then that (`Front`).
-use mathlib.Core.Path.{◌≡◌, ap, ◌∙◌}
+use mathlib.Core.Path.{◌≡◌, sym, ap, ◌∙◌}
 use Prim.Native.Nat.{◌≤◌}
 use native.Mathlib.Omega.{arith}
 use borrow.Author.Rules.{rules}
+use lib.Seq.{length-take-le}
 use Rattle.std.specs.Prelude.{Err}
 use Rattle.passage.proofs.Digests.{count_few}
 use Rattle.refusals.proofs.Laws.{number_above}
@@ -17,8 +18,17 @@ returns-in_err-f c =
     let e : c.from_residual.result ≡ Err why = search rules in
     ap taken_apart e ∙ front_refuses a.size a.n a.letter.now (number_above why) c.in_err-f.ensures
 
-pub shared_ref_as_front-digest_count : goal.shared_ref_as_front-digest_count
-shared_ref_as_front-digest_count c = let a = c.args in (fronted a.size a.n a.letter.now c.in_ok-f.ensures).few
+pub slice_bounds-indexes-end : goal.slice_bounds-indexes-end
+slice_bounds-indexes-end c =
+    let a = c.args in
+    let t = fronted a.size a.n a.letter.now c.in_ok-f.ensures in
+    omega (arith, t.few, t.indexes_long)
+
+pub slice_bounds-digest_count-end : goal.slice_bounds-digest_count-end
+slice_bounds-digest_count-end c =
+    let a = c.args in
+    let t = fronted a.size a.n a.letter.now c.in_ok-f.ensures in
+    sym (length-take-le c.in_ok-f.f.count c.in_ok-f.f.indexes (omega (arith, t.few, t.indexes_long)))
 
 -- at most 8,192 digests, and the length that is asked for
 pub overflow_mul-digests : goal.overflow_mul-digests

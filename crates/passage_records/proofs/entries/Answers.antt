@@ -6,7 +6,7 @@ use Rattle.std.specs.Prelude.{Err}
 use Rattle.refusals.proofs.Laws.{number_above}
 use Rattle.digest.specs.Digest.{digest_in}
 use Rattle.passage_records.specs.Outcome.{listed}
-use Rattle.passage_records.proofs.Rooms.{pass_refuses, counted, room_refuses, listable, all_listed}
+use Rattle.passage_records.proofs.Rooms.{pass_refuses, indexes_front, places_front, indexes_room, places_room, room_refuses, listable, all_listed}
 use Rattle.passage_records.proofs.entries.Goals as goal
 use Rattle.passage_records.proofs.entries.Goals.{then-indexes-count-via-then-indexes-count, then-indexes-count-via-else-indexes-count+then-starts-count, then-indexes-count-via-else-indexes-count+else-starts-count+then-lengths-count}
 
@@ -30,10 +30,25 @@ returns-then-indexes-count c =
     ])
 
 -- there is room in the arrays
-pub shared_ref_as_front-list : goal.shared_ref_as_front-list
-shared_ref_as_front-list c =
+pub slice_bounds-given-end : goal.slice_bounds-given-end
+slice_bounds-given-end c =
     let a = c.args in
-    counted (digest_in a.mode.now) a.size a.root.now a.letter.now a.indexes.now a.starts.now a.lengths.now c.in_ok-f.ensures
+    indexes_room (digest_in a.mode.now) a.size a.root.now a.letter.now a.indexes.now a.starts.now a.lengths.now c.in_ok-f.ensures
+
+pub slice_bounds-list-end : goal.slice_bounds-list-end
+slice_bounds-list-end c =
+    let a = c.args in
+    indexes_front (digest_in a.mode.now) a.size a.root.now a.letter.now a.indexes.now a.starts.now a.lengths.now c.in_ok-f.ensures
+
+pub slice_bounds-places-end : goal.slice_bounds-places-end
+slice_bounds-places-end c =
+    let a = c.args in
+    places_room (digest_in a.mode.now) a.size a.root.now a.letter.now a.indexes.now a.starts.now a.lengths.now c.in_ok-f.ensures
+
+pub slice_bounds-list-end-2 : goal.slice_bounds-list-end-2
+slice_bounds-list-end-2 c =
+    let a = c.args in
+    places_front (digest_in a.mode.now) a.size a.root.now a.letter.now a.indexes.now a.starts.now a.lengths.now c.in_ok-f.ensures
 
 -- and in the three lists
 pub list-requires : goal.list-requires

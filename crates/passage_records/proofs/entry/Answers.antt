@@ -31,25 +31,25 @@ returns-then-f-k-clause-there c =
     omega (arith, c.if-f-k.true, entry_count (digest_in a.mode.now) a.size a.root.now a.letter.now c.in_ok-f.ensures)
 
 -- it is there
-pub offset_bounds-f-j : goal.offset_bounds-f-j
-offset_bounds-f-j c =
+pub offset_bounds-places-j : goal.offset_bounds-places-j
+offset_bounds-places-j c =
     let a = c.args in
     let w = entry_inside (digest_in a.mode.now) a.size a.root.now a.letter.now c.in_ok-f.ensures a.k c.if-f-k.false in
     record { fits = omega (arith, w) }
 
-pub bounds-f-j : goal.bounds-f-j
-bounds-f-j c =
+pub bounds-places-j : goal.bounds-places-j
+bounds-places-j c =
     let a = c.args in
     (entry_inside (digest_in a.mode.now) a.size a.root.now a.letter.now c.in_ok-f.ensures a.k c.if-f-k.false).0
 
-pub offset_bounds-f-j-2 : goal.offset_bounds-f-j-2
-offset_bounds-f-j-2 c =
+pub offset_bounds-indexes-j : goal.offset_bounds-indexes-j
+offset_bounds-indexes-j c =
     let a = c.args in
     let w = entry_inside (digest_in a.mode.now) a.size a.root.now a.letter.now c.in_ok-f.ensures a.k c.if-f-k.false in
     record { fits = omega (arith, w) }
 
-pub bounds-f-j-2 : goal.bounds-f-j-2
-bounds-f-j-2 c =
+pub bounds-indexes-j : goal.bounds-indexes-j
+bounds-indexes-j c =
     let a = c.args in
     (entry_inside (digest_in a.mode.now) a.size a.root.now a.letter.now c.in_ok-f.ensures a.k c.if-f-k.false).0
 
