@@ -134,8 +134,8 @@ pub fn take_front(size: u64, n: u64, letter: &[u8]) -> Result<Fields, Refused>
     take_records(n, letter, count)
 }
 
-// Takes a letter apart, for a log of this size with n leaves. Refuses as `take_front` does, and then by 7 (exact). The indexes are lent by themselves:
-// lent as a part of the answer they would have it zeroed whole (bench/passage.sh).
+// Takes a letter apart, for a log of this size with n leaves. Refuses as `take_front` does, and then by 7 (exact). The indexes are lent by
+// themselves: lent as a part of the answer they would have it zeroed whole (bench/passage.sh).
 pub fn take_apart(size: u64, n: u64, letter: &[u8]) -> Result<Fields, Refused>
     ensures { taken_apart result ≡ fields_outcome size n letter.now }
 {
