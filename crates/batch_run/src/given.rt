@@ -1,11 +1,6 @@
-// A part of a list of lengths, and the line of one batch.
+// The line of one batch.
 use evidence_log::Appended;
 use runs::lines::{end_line, say_digest, say_numbers};
-
-// The first n lengths, or all where there are fewer.
-pub(crate) fn first<'a>(lengths: &'a [u32], n: usize) -> &'a [u32] {
-    lengths.get(..n).unwrap_or(lengths)
-}
 
 // One line: the size, how many joined bytes and lengths there are, and the room; the number, the size and the hash count; the digest of the buffer.
 // Hands back the size that is answered: on a refusal the one that was given.

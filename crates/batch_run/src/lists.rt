@@ -1,6 +1,6 @@
 // Lists of 0 to 40 lengths: to an empty log, with seven more behind them, and all forty in a buffer that ends one byte before the room of each.
-use crate::given::{first, try_batch};
-use runs::given::{front, record_of};
+use crate::given::try_batch;
+use runs::given::{first_of, front, record_of};
 
 // How many bytes the first seven records have.
 const SEVEN: u64 = 229;
@@ -47,7 +47,7 @@ fn append_first(
         mode,
         size,
         front(&records, bytes as usize),
-        first(&lengths, k),
+        first_of(&lengths, k),
         nodes,
         room,
     )

@@ -1,6 +1,6 @@
 // Batches of five records to a log of three: done, and each refusal at the first record, a middle one and the last; lengths that are off; no record.
-use crate::given::{first, try_batch};
-use runs::given::{front, record_of};
+use crate::given::try_batch;
+use runs::given::{first_of, front, record_of};
 
 // The lengths of the log's own records, which are 12 bytes.
 const OWN: [u32; 3] = [4, 0, 8];
@@ -23,7 +23,7 @@ fn try_row(
         mode,
         size,
         front(&records, bytes),
-        first(&lengths, count),
+        first_of(&lengths, count),
         &mut nodes,
         room,
     );

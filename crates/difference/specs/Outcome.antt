@@ -20,7 +20,7 @@ pub record FindOutcome : Type 0 where
 abbrev pub find_refused : List ℕ → List ℕ → ℕ → FindOutcome
 find_refused first second number = record { number = number; finding = Nothing; first = first; second = second }
 
--- an answer that is found, and no lent byte changes
+-- an answer that is found, and the two buffers at return
 abbrev pub find_found : List ℕ → List ℕ → Found → FindOutcome
 find_found first second f = record { number = 0; finding = finding_of f; first = first; second = second }
 

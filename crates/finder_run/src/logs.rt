@@ -6,7 +6,8 @@ use refusals::Refused;
 use runs::given::{filled, front, length_of, record_of};
 use runs::lines::{end_line, say_numbers};
 
-// Record k appended to a log of at most nine; the new size.
+// Record k appended to a log of at most nine; the new size. letter_run has this and the letter of an index over a buffer of twenty: no crate that both
+// programs see has logs.
 pub(crate) fn grow(size: u64, k: usize, nodes: &mut [u8; 512]) -> u64 {
     let mode = digest::plain();
     let rec = record_of(k);

@@ -56,7 +56,7 @@ index_of Named.Same = 0
 index_of (Named.Records i) = i
 index_of Named.Pair = 0
 
--- an answer that is found, and no lent byte changes
+-- an answer that is found, and the two buffers at return
 abbrev pub named_found : List ℕ → List ℕ → Named → NamedOutcome
 named_found first second n = record { number = 0; finding = finding_of n; index = index_of n; first = first; second = second }
 

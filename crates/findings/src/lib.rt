@@ -10,7 +10,8 @@ use difference::Finding;
 use inputs::Unequal;
 use refusals::Refused;
 
-// What is found; "records" names the index of the first two that differ.
+// What is found; "records" names the index of the first two that differ. An enum over what "records" names would put a type into every statement about
+// `Finding`.
 #[derive(Clone, Copy, Debug, PartialEq, Eq)]
 pub enum Named {
     Same,

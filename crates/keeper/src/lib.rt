@@ -33,6 +33,9 @@ pub extern "C" fn keeper_mode_keyed(key: &[u8], mode: &mut [u8; 36]) -> u32
 pub extern "C" fn keeper_digest(mode: &[u8; 36], bytes: &[u8], out: &mut [u8]) -> u32
     ensures { filled result out.new ≡ digest_call mode.now bytes.now out.old }
 {
+    if out.len() < 32 {
+        return u32::from(Refused::OutputTooShort);
+    }
     kept::hand(digest::digest_of(mode, bytes).bytes, out)
 }
 

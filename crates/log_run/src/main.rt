@@ -57,7 +57,7 @@ fn run(rt: &impl Print, nodes: &mut [u8; 2624], shown: bool) -> u64 {
     size
 }
 
-// The digest of the whole buffer, after its label.
+// The digest of the whole buffer, after its label, as a line of its own, which `say_digest` of `runs` does not make.
 fn show_whole(rt: &impl Print, label: &[u8], nodes: &[u8; 2624]) {
     let mode = digest::plain();
     show_digest(rt, label, digest::digest_of(&mode, nodes));

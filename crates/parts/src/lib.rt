@@ -30,7 +30,7 @@ pub struct Parts {
     pub block: [u8; 64],
 }
 
-// The state that holds no byte, in a mode.
+// The state that holds no byte, in a mode. What reads a mode is `digest`'s own, so that it is read here once more.
 pub fn begin(mode: &[u8; 36]) -> Parts
     ensures { result ≡ begin_outcome mode.now }
 {

@@ -20,7 +20,7 @@ fn start_of(keyed: u32, key: [u32; 8]) -> [u32; 8]
     key
 }
 
-// What the mode puts into each compression.
+// What the mode puts into each compression: `blake` has it from a key in bytes, and a state keeps the key's words.
 pub(crate) fn keying_of(keyed: u32, key: [u32; 8]) -> Keying
     ensures words { result.words ≡ start_in keyed key }
     ensures flag { result.flag ≡ flag_in keyed }

@@ -5,7 +5,7 @@ ghost use Rattle.views.specs.Passage.{under, passage_in};
 ghost use Rattle.passage.specs.Digests.{digest_count};
 ghost use Rattle.passage.specs.Steps.{Countable};
 
-// How many indexes at the front are below m.
+// How many indexes at the front are below m. By `position` the proof did not close.
 pub fn below(is: &[u64], m: u64) -> usize
     ensures { (result ≡ under m is.now) × (result ≤ length is.now) }
 {

@@ -56,7 +56,7 @@ pub fn judge(mode: &[u8; 36], input: &[u8]) -> Result<(), Refused>
     Ok(())
 }
 
-// The verdict for a key, and then trusted size, root and one letter in a row. 24 for under 32 bytes.
+// The verdict for a key, and then trusted size, root and one letter in a row. 24 for under 32 bytes. Its own too, by its own `judge`.
 pub fn judge_keyed(input: &[u8]) -> Result<(), Refused>
     ensures { number_in result ≡ judged_keyed input.now }
 {

@@ -99,6 +99,7 @@ fn take_records(n: u64, letter: &[u8], count: usize) -> Result<Fields, Refused>
     let mut places = [0usize; 256];
     let mut at = HEAD;
     let mut floor: u64 = 0;
+    // place k of two arrays is written
     for k in 0..count {
         refusal_at(n, letter, at, floor)?;
         let index = index_at(letter, at);

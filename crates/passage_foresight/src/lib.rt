@@ -12,7 +12,7 @@ ghost use Rattle.passage_foresight.specs.Steps.{OneEach};
 
 use refusals::Refused;
 
-// The first of 5 and 3 that a record meets, by its index and its length.
+// The first of 5 and 3 that a record meets, by its index and its length. By `zip` the loop's invariant did not close.
 fn limits_refusal(n: u64, indexes: &[u64], lengths: &[u32]) -> Result<(), Refused>
     requires { length lengths.now ≡ length indexes.now }
     ensures { number_in result ≡ first_number (limits_order n indexes.now lengths.now) }

@@ -12,7 +12,8 @@ use passage_checker::pass;
 use passage_fields::stated_at;
 use refusals::Refused;
 
-// A record of a letter: its index, and where the record lies in the letter.
+// A record of a letter: its index, and where the record lies in the letter. A letter of one record has `Fields` of the same three, which are that
+// letter taken apart: here they are one record of many.
 #[derive(Clone, Copy, PartialEq, Eq)]
 pub struct Handed {
     pub index: u64,

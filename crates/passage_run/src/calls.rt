@@ -1,11 +1,11 @@
 // The calls, and what they answer, printed. A row has: where eight parts start and how long they are, which are the words that begin its line, the
 // key, the indexes, the joined records, their lengths, the nodes, the root, the letter; the size; the room for a letter; which record is handed out;
 // how many places there are for indexes; how much of the finder's two buffers is lent.
-use crate::given::{at_most, first_of, indexes_in, lengths_in, mode_of, number, part};
+use crate::given::{at_most, indexes_in, lengths_in, mode_of, number, part};
 use findings::Named;
 use passage_records::Handed;
 use refusals::Refused;
-use runs::given::front;
+use runs::given::{first_of, front};
 use runs::lines::{end_line, say, say_digest, say_number, say_numbers};
 
 // One more number of a line.
@@ -21,7 +21,7 @@ fn say_two(rt: &impl Print, label: &[u8], refusal: u32, answer: u64) {
 
 // The digest of what is lent of an output, and of eight bytes behind it.
 fn show_out(rt: &impl Print, out: &[u8; 16640], room: u64) {
-    let n = std::num::wrapping_add_u64(room, 8);
+    let n = room.wrapping_add(8);
     say_digest(rt, b" ", front(out, n as usize));
 }
 
@@ -34,9 +34,9 @@ fn show_write(rt: &impl Print, mode: &[u8; 36], input: &[u8], row: &[u8]) {
     let w = passage_writer::write_passage(
         mode,
         number(row, 16),
-        first_of(&indexes, number(row, 5) / 8),
+        first_of(&indexes, at_most(number(row, 5) / 8, 257)),
         part(input, row, 6),
-        first_of(&lengths, number(row, 9) / 4),
+        first_of(&lengths, at_most(number(row, 9) / 4, 257)),
         part(input, row, 10),
         &mut out[..room],
     );
@@ -71,7 +71,7 @@ fn show_list(rt: &impl Print, list: &[u64; 257], count: u64) {
     say_numbers(
         rt,
         b" ",
-        first_of(list, std::num::wrapping_add_u64(count, 1)),
+        first_of(list, at_most(count.wrapping_add(1), 257)),
     );
 }
 
@@ -127,7 +127,7 @@ fn show_find(rt: &impl Print, mode: &[u8; 36], input: &[u8], row: &[u8]) {
         number(row, 16),
         part(input, row, 10),
         part(input, row, 6),
-        first_of(&lengths, number(row, 9) / 4),
+        first_of(&lengths, at_most(number(row, 9) / 4, 257)),
         part(input, row, 14),
         &mut first[..one],
         &mut second[..two],

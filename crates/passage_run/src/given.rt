@@ -50,8 +50,3 @@ pub(crate) fn lengths_in(part: &[u8]) -> [u32; 257] {
     }
     out
 }
-
-// The first n of a list, or all where there are fewer.
-pub(crate) fn first_of<'a, T>(list: &'a [T], n: u64) -> &'a [T] {
-    &list[..at_most(n, list.len())]
-}

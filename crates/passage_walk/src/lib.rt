@@ -22,7 +22,7 @@ pub struct Trail {
     pub difference: Option<Unequal>,
 }
 
-// The same of a part of the tree, and how many leaf digests and given digests of the letter it took.
+// The same of a part of the tree, and how many leaf digests and given digests of the letter it took: no caller of the walk is told these.
 #[derive(Drop)]
 struct Part {
     log: Digest,

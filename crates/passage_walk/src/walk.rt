@@ -6,7 +6,7 @@ ghost use Rattle.passage_walk.specs.Steps.{next, Passable, Given, Asked, Walkabl
 use crate::{Part, Place, join};
 use inputs::fork::Fork;
 
-// A subtree whose digest is given.
+// A subtree whose digest is given. A leaf, below, is read from another list and takes another digest of the letter.
 fn given(mode: &[u8; 36], nodes: &[u8], items: &[u8], n: u64, at: Place) -> Part
     ensures { Given (digest_in mode.now) nodes.now items.now n at result }
 {

@@ -1,5 +1,5 @@
 // The bytes that a crate is given: records of any length, letters that state other numbers, and front parts.
-ghost use Rattle.std.specs.Prelude.{◌≡◌, length};
+ghost use Rattle.std.specs.Prelude.{◌≡◌, length, take};
 ghost use Rattle.wire.specs.Lent.{lent};
 ghost use Rattle.runs.specs.Given.{record_of, length_of, restated, front_of};
 
@@ -48,7 +48,14 @@ pub fn restate(letter: &mut [u8], named: u64, index: u64, stated: u64)
     wire::write8(letter, 0, named);
 }
 
-// The first n bytes, or all where there are fewer.
+// The first n of a list, or all where there are fewer.
+pub fn first_of<'a, T>(list: &'a [T], n: usize) -> &'a [T]
+    ensures { result.now ≡ take n list.now }
+{
+    list.get(..n).unwrap_or(list)
+}
+
+// The first n bytes, or all where there are fewer: as `first_of`, and where they lie is said too.
 pub fn front<'a>(bytes: &'a [u8], n: usize) -> &'a [u8]
     ensures { lent result ≡ front_of n bytes.entry }
 {
