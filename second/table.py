@@ -14,7 +14,7 @@ SCANNED = ("crates/*/src/**/*.rt", "crates/*/specs/**/*.antt", "include/*.h", "h
 # The orders with it, kept to say that every answer by them is the answer without it.
 KEPT = "crates/letter_promise/specs/Struck.antt"
 # Lines in which it is something else: a word of a compression, a chunk's last block, the size of eight leaves, bits, a log of so many leaves, a
-# column of a row.
+# table of so many rows, a column of a row.
 OTHERS = {
     "const ORDER: [usize; 16] = [2, 6, 3, 10, 7, 0, 4, 13, 1, 11, 12, 5, 9, 14, 15, 8];",
     "let u = mix(s[3], s[7], s[11], s[15], m[6], m[7]);",
@@ -22,6 +22,7 @@ OTHERS = {
     "let p = mix(s[0], s[5], s[10], s[15], m[8], m[9]);",
     "for b in 0..15 {",
     "let size = log_of(15, &mut nodes);",
+    "const LIMITS: [(u64, u64, u32, usize); 15] = [",
     "part(input, row, 15),",
     "let letter = part(input, row, 15);",
     "order = 2 ∷ 6 ∷ 3 ∷ 10 ∷ 7 ∷ 0 ∷ 4 ∷ 13 ∷ 1 ∷ 11 ∷ 12 ∷ 5 ∷ 9 ∷ 14 ∷ 15 ∷ 8 ∷ []",
