@@ -23,5 +23,5 @@ impl Judge<17501> for KeyedLetter {
 
 fn main(rt: HostRuntime) -> std::io::Result<()> {
     let mut input = [0u8; 17501];
-    panels::answer::<KeyedLetter, 17501>(&rt, &mut rt.stdin(), &mut input)
+    panels::answer::<KeyedLetter, _, 17501>(&rt, &mut rt.stdin(), &mut input)
 }

@@ -25,5 +25,5 @@ impl Judge<4459603> for KeyedPassage {
 // The one buffer is lent and never copied.
 fn main(rt: HostRuntime) -> std::io::Result<()> {
     let mut input = [0u8; 4459603];
-    panels::answer::<KeyedPassage, 4459603>(&rt, &mut rt.stdin(), &mut input)
+    panels::answer::<KeyedPassage, _, 4459603>(&rt, &mut rt.stdin(), &mut input)
 }

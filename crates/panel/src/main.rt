@@ -24,5 +24,5 @@ impl Judge<17469> for Letter {
 
 fn main(rt: HostRuntime) -> std::io::Result<()> {
     let mut input = [0u8; 17469];
-    panels::answer::<Letter, 17469>(&rt, &mut rt.stdin(), &mut input)
+    panels::answer::<Letter, _, 17469>(&rt, &mut rt.stdin(), &mut input)
 }

@@ -1,7 +1,8 @@
 // The program that panels run, whatever it judges: an input from standard input, its verdict number in decimal to standard output.
 #![tactic(auto)]
 
-ghost use Rattle.std.specs.Prelude.{◌≡◌, List, ℕ, take};
+ghost use Rattle.std.specs.Prelude.{◌≡◌, ◌≤◌, List, ℕ, take};
+ghost use Rattle.std.specs.Io.KnownBytes.{Consumes};
 ghost use Rattle.io.specs.Counts.{IsPrefixLen};
 ghost use Rattle.io.specs.Digits.{last_digits, IsDigitCount};
 ghost use Rattle.refusals.specs.Numbers.{number_in};
@@ -29,12 +30,15 @@ pub fn verdict<J: Judge<N>, const N: usize>(input: &[u8], out: &mut [u8; 20]) ->
     io::decimal(number as u64, out)
 }
 
-// Fills the buffer from standard input, and writes the verdict on what was read.
-pub fn answer<J: Judge<N>, const N: usize>(
+// Fills the buffer from standard input, and writes the verdict on what was read: of an input whose bytes are known, the first ones, as many as there is
+// room for.
+pub fn answer<J: Judge<N>, R: Read, const N: usize>(
     rt: &impl Print,
-    stdin: &mut impl Read,
+    stdin: &mut R,
     input: &mut [u8; N],
-) -> Result<()> {
+) -> Result<()>
+    ensures { (n : ℕ) × (n ≤ N) × Consumes (R.remaining stdin.old) (R.remaining stdin.new) (take n input.new) }
+{
     let n = streams::read_full(stdin, input);
     let mut text = [0u8; 20];
     let k = verdict::<J, N>(&input[..n], &mut text);

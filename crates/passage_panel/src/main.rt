@@ -25,5 +25,5 @@ impl Judge<4459571> for Passage {
 // The one buffer is lent and never copied.
 fn main(rt: HostRuntime) -> std::io::Result<()> {
     let mut input = [0u8; 4459571];
-    panels::answer::<Passage, 4459571>(&rt, &mut rt.stdin(), &mut input)
+    panels::answer::<Passage, _, 4459571>(&rt, &mut rt.stdin(), &mut input)
 }
