@@ -22,6 +22,7 @@ impl Judge<17469> for Letter {
     ghost front = { front_judged digest_of };
 }
 
+// Each of the four programs has a `main`, with a buffer of its own size.
 fn main(rt: HostRuntime) -> std::io::Result<()> {
     let mut input = [0u8; 17469];
     panels::answer::<Letter, _, 17469>(&rt, &mut rt.stdin(), &mut input)

@@ -10,7 +10,6 @@ use Rattle.wire.specs.Slices.{zeros}
 use Rattle.parts_rule.specs.Run.{between, put, flushed, taken}
 use Rattle.parts_rule.proofs.Puts.{taken_put, taken_filled}
 use Rattle.parts.specs.declared.Parts.{Parts}
-use Rattle.parts_rule.specs.Counts.{held_of}
 use Rattle.parts_rule.specs.Stack.{subtrees, padded}
 use Rattle.parts.specs.State.{start_in, start_of, flag_of, Counted, run_of, stored}
 use Rattle.parts_rule.specs.Steps.{full_run, Gone, Went}
@@ -80,12 +79,6 @@ module _ (s : Parts) (part : List ℕ) (size : length s.block ≡ 64) (g : Count
 
   held : s.held ≤ 64
   held = omega (arith, g.held, held_low s.total)
-
-  held_one : 0 < held_of s.total
-  held_one = omega (arith, g.held)
-
-  to_full : held_of s.total + space ≡ 64
-  to_full = omega (arith, g.held, held)
 
   space_length : length (take space part) ≡ space
   space_length = length-take-le space part (omega (arith, held))

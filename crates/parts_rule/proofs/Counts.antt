@@ -77,14 +77,3 @@ module _ (stacked total len : ℕ) (r : Ready stacked total len) where
 pub ready_full : (stacked total len : ℕ) → Ready stacked total len → 64 < len → Full (total + 64) stacked
 ready_full stacked total len r l =
     record { limit = omega (arith, r.limit); held = next_full total r.even; high = r.count ∙ ap ones (next_before total r.even) }
-
--- the block filled: with its last bytes the total is even
-pub filled_held : (t n : ℕ) → 0 < held_of t → held_of t + n ≡ 64 → held_of (t + n) ≡ 64
-filled_held t n s e = omega arith
-
-pub filled_before : (t n : ℕ) → 0 < held_of t → held_of t + n ≡ 64 → finished t ≡ finished (t + n)
-filled_before t n s e = omega arith
-
--- a block that holds none: no byte came
-pub none_held : (t : ℕ) → held_of t ≡ 0 → t ≡ 0
-none_held t e = omega arith

@@ -13,7 +13,7 @@ use blake::flags::ROOT;
 use blake::tree::parent;
 use chunks::Keying;
 
-// Subtree i.
+// Subtree i. The public calls answer a slice of any length, so that the private ones ask for the 240 words.
 fn subtree(stack: &[u32], i: usize) -> [u32; 8]
     requires { (length stack.now ≡ 240) × (i < 30) }
     ensures { result ≡ subtree_at stack.now i }
