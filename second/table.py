@@ -14,7 +14,7 @@ SCANNED = ("crates/*/src/**/*.rt", "crates/*/specs/**/*.antt", "include/*.h", "h
 # The orders with it, kept to say that every answer by them is the answer without it.
 KEPT = "crates/letter_promise/specs/Struck.antt"
 # Lines in which it is something else: a word of a compression, a chunk's last block, the size of eight leaves, bits, a log of so many leaves, a
-# table of so many rows, a column of a row.
+# table of so many rows.
 OTHERS = {
     "const ORDER: [usize; 16] = [2, 6, 3, 10, 7, 0, 4, 13, 1, 11, 12, 5, 9, 14, 15, 8];",
     "let u = mix(s[3], s[7], s[11], s[15], m[6], m[7]);",
@@ -23,8 +23,6 @@ OTHERS = {
     "for b in 0..15 {",
     "let size = log_of(15, &mut nodes);",
     "const LIMITS: [(u64, u64, u32, usize); 15] = [",
-    "part(input, row, 15),",
-    "let letter = part(input, row, 15);",
     "order = 2 ∷ 6 ∷ 3 ∷ 10 ∷ 7 ∷ 0 ∷ 4 ∷ 13 ∷ 1 ∷ 11 ∷ 12 ∷ 5 ∷ 9 ∷ 14 ∷ 15 ∷ 8 ∷ []",
     "3 7 11 15 (slice_index m 6) (slice_index m 7)",
     "mixed_at (mixed_at (mixed_at (mixed_at s 0 5 10 15 (slice_index m 8) (slice_index m 9))",
