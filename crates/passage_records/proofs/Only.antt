@@ -1,27 +1,42 @@
 -- Each statement leaves one answer; for a list of all records, one answer and three lists.
-use mathlib.Core.Path.{◌≡◌, refl, sym, ap, ◌∙◌}
+use mathlib.Core.Path.{◌≡◌, refl, sym, ap, ap₂, path_j, ◌∙◌}
 use mathlib.Core.List.{List}
-use Prim.Native.Nat.{ℕ}
+use Prim.Native.Nat.{ℕ, ◌<◌}
 use native.Mathlib.Omega.{arith}
+use native.Mathlib.Bridge.{le_prop}
 use Rattle.std.specs.Prelude.{Option, Some, None, Result, Ok, Err}
 use Rattle.refusals.specs.declared.Refused.{Refused}
 use Rattle.refusals.proofs.Laws.{number_above, same_number}
-use Rattle.passage_records.specs.declared.Handed.{Handed}
-use Rattle.passage_records.specs.Outcome.{EntryOutcome, handed, There, EntriesOutcome, listed}
+use Rattle.passage_records.specs.declared.place.Handed.{Handed}
+use Rattle.passage_records.specs.Outcome.{EntryOutcome, handed, EntriesOutcome, listed}
 
-pub entry_only : (outcome : EntryOutcome) (count k : ℕ) (r s : Result (Option Handed) Refused) → handed r ≡ outcome → There count k r
-    → handed s ≡ outcome → There count k s → r ≡ s
-entry_only outcome count k (Ok (Some a)) (Ok (Some b)) e p f q =
+-- a record that is handed out, by its three fields
+abbrev placed : (i s l : ℕ) → 0 < s → Handed
+placed i s l behind = record { index = i; start = s; length = l; behind = behind }
+
+same_start : (i l : ℕ) {s t : ℕ} → s ≡ t → (x : 0 < s) (y : 0 < t) → placed i s l x ≡ placed i t l y
+same_start i l {s} p x y = path_j (λ t q. (z : 0 < t) → placed i s l x ≡ placed i t l z) (λ z j. placed i s l (le_prop x z j)) p y
+
+same_handed : (a b : Handed) → a.index ≡ b.index → a.start ≡ b.start → a.length ≡ b.length → a ≡ b
+same_handed a b i s l = ap₂ (λ (x y : ℕ). placed x a.start y a.behind) i l ∙ same_start b.index b.length s a.behind b.behind
+
+-- no record is handed out at the start of a letter, which is where the empty part is
+no_start : (a : Handed) {n : ℕ} → a.start ≡ n → n ≡ 0 → ⊥
+no_start a e z = omega (arith, a.behind, e, z)
+
+pub entry_only : (outcome : EntryOutcome) {r s : Result (Option Handed) Refused} → handed r ≡ outcome → handed s ≡ outcome → r ≡ s
+entry_only outcome {r = Ok (Some a)} {s = Ok (Some b)} e f =
     let g = e ∙ sym f in
-    ap (λ (h : Handed). Ok (Some h)) (λ i. record { index = (g i).index; start = (g i).start; length = (g i).length })
-entry_only outcome count k (Ok (Some a)) (Ok None) e p f q = absurd (omega arith)
-entry_only outcome count k (Ok None) (Ok (Some b)) e p f q = absurd (omega arith)
-entry_only outcome count k (Ok None) (Ok None) e p f q = refl
-entry_only outcome count k (Ok (Some a)) (Err b) e p f q = absurd (omega (arith, number_above b, ap (λ (o : EntryOutcome). o.number) (e ∙ sym f)))
-entry_only outcome count k (Ok None) (Err b) e p f q = absurd (omega (arith, number_above b, ap (λ (o : EntryOutcome). o.number) (e ∙ sym f)))
-entry_only outcome count k (Err a) (Ok (Some b)) e p f q = absurd (omega (arith, number_above a, ap (λ (o : EntryOutcome). o.number) (e ∙ sym f)))
-entry_only outcome count k (Err a) (Ok None) e p f q = absurd (omega (arith, number_above a, ap (λ (o : EntryOutcome). o.number) (e ∙ sym f)))
-entry_only outcome count k (Err a) (Err b) e p f q = ap Err (same_number a b (ap (λ (o : EntryOutcome). o.number) (e ∙ sym f)))
+    ap (λ (h : Handed). Ok (Some h))
+    (same_handed a b (ap (λ (o : EntryOutcome). o.index) g) (ap (λ (o : EntryOutcome). o.start) g) (ap (λ (o : EntryOutcome). o.length) g))
+entry_only outcome {r = Ok (Some a)} {s = Ok None} e f = absurd (no_start a (ap (λ (o : EntryOutcome). o.start) (e ∙ sym f)) refl)
+entry_only outcome {r = Ok None} {s = Ok (Some b)} e f = absurd (no_start b (ap (λ (o : EntryOutcome). o.start) (f ∙ sym e)) refl)
+entry_only outcome {r = Ok None} {s = Ok None} e f = refl
+entry_only outcome {r = Ok (Some a)} {s = Err b} e f = absurd (omega (arith, number_above b, ap (λ (o : EntryOutcome). o.number) (e ∙ sym f)))
+entry_only outcome {r = Ok None} {s = Err b} e f = absurd (omega (arith, number_above b, ap (λ (o : EntryOutcome). o.number) (e ∙ sym f)))
+entry_only outcome {r = Err a} {s = Ok (Some b)} e f = absurd (omega (arith, number_above a, ap (λ (o : EntryOutcome). o.number) (e ∙ sym f)))
+entry_only outcome {r = Err a} {s = Ok None} e f = absurd (omega (arith, number_above a, ap (λ (o : EntryOutcome). o.number) (e ∙ sym f)))
+entry_only outcome {r = Err a} {s = Err b} e f = ap Err (same_number a b (ap (λ (o : EntryOutcome). o.number) (e ∙ sym f)))
 
 -- the answer and the three lists, read off the outcome
 same : (r s : Result ℕ Refused) (i j k u v w : List ℕ) → listed r i j k ≡ listed s u v w → r ≡ s

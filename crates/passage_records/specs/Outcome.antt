@@ -8,7 +8,7 @@ use Rattle.wire.specs.Slices.{splice}
 use Rattle.wire.specs.Lent.{Part, part_of}
 use Rattle.passage.specs.Bytes.{count_in, indexes_in, starts_in, lengths_in}
 use Rattle.passage_checker.specs.Outcome.{check_order}
-use Rattle.passage_records.specs.declared.Handed.{Handed}
+use Rattle.passage_records.specs.declared.place.Handed.{Handed}
 
 -- ---- record k
 

@@ -8,18 +8,12 @@ ghost use Rattle.passage.specs.Bytes.{count_in};
 ghost use Rattle.passage_records.specs.Outcome.{handed, There, entry_outcome, record_part, listed, entries_outcome};
 ghost use Rattle.passage_records.specs.Steps.{Listable, Listed};
 
+pub mod place;
+
 use passage_checker::pass;
 use passage_fields::stated_at;
+pub use place::Handed;
 use refusals::Refused;
-
-// A record of a letter: its index, and where the record lies in the letter. A letter of one record has `Fields` of the same three, which are that
-// letter taken apart: here they are one record of many.
-#[derive(Clone, Copy, PartialEq, Eq)]
-pub struct Handed {
-    pub index: u64,
-    pub start: usize,
-    pub length: usize,
-}
 
 // Record k of an accepted letter, counted from 0; none past the last. Refuses as `check` does. Both lists are read by themselves, here and in
 // `entries`, as in `passage_checker::pass`.
@@ -46,6 +40,18 @@ pub fn entry(
         start: at + passage::FRAME,
         length: stated_at(letter, at),
     }))
+}
+
+// The index, start and length that `entry` hands back: beside a refusal, and past the last, all 0.
+pub fn place_of(answer: Result<Option<Handed>, Refused>) -> (u64, usize, usize)
+    ensures index { result.0 ≡ (handed answer).index }
+    ensures start { result.1 ≡ (handed answer).start }
+    ensures length { result.2 ≡ (handed answer).length }
+{
+    match answer {
+        Ok(Some(e)) => (e.index, e.start, e.length),
+        _ => (0, 0, 0),
+    }
 }
 
 // Record k of an accepted letter, as a part of it; past the last, and for a refusal, the empty part at the start.

@@ -8,7 +8,7 @@ use Rattle.wire.specs.Lent.{part_of}
 use Rattle.wire.proofs.Lent.{slice_part, lent_part}
 use Rattle.digest.specs.Digest.{digest_in}
 use Rattle.passage_records.specs.Outcome.{EntryOutcome, handed_back, handed, entry_outcome}
-use Rattle.passage_records.specs.declared.Handed.{Handed}
+use Rattle.passage_records.specs.declared.place.Handed.{Handed}
 use Rattle.std.specs.Result.{result_unwrap_or}
 use Rattle.std.specs.Prelude.{Option, Some, None, Result, Ok, Err}
 use Rattle.refusals.specs.declared.Refused.{Refused}
@@ -36,23 +36,23 @@ returns-in_default c =
     ∙ ap₂ (λ (s l : ℕ). part_of s l a.letter) (sym z.0) (sym z.1)
 
 -- it ends within the letter
-inside : (digest : List ℕ → List ℕ) (size : ℕ) (root letter : List ℕ) (k : ℕ) {h : Handed}
+inside : (digest : List ℕ → List ℕ) (size : ℕ) (root letter : List ℕ) (k : ℕ) (h : Handed)
     → record { number = 0; index = h.index; start = h.start; length = h.length } ≡ entry_outcome digest size root letter k
     → h.start + h.length ≤ length letter
-inside digest size root letter k e =
+inside digest size root letter k h e =
     rw (ap (λ (o : EntryOutcome). o.start) e, ap (λ (o : EntryOutcome). o.length) e) (entry_within digest size root letter k)
 
 pub overflow_add-result : goal.overflow_add-result
 overflow_add-result c =
     let a = c.args in
-    let w = inside (digest_in a.mode.now) a.size a.root.now a.letter.now a.k
+    let w = inside (digest_in a.mode.now) a.size a.root.now a.letter.now a.k c.in-Some.e
     (answered c.entry.result c.entry.ensures.part (sym c.unwrap_or.ensures ∙ c.in-Some.is)) in
     search rules
 
 pub slice_bounds-result-end-2 : goal.slice_bounds-result-end-2
 slice_bounds-result-end-2 c =
     let a = c.args in
-    let w = inside (digest_in a.mode.now) a.size a.root.now a.letter.now a.k
+    let w = inside (digest_in a.mode.now) a.size a.root.now a.letter.now a.k c.in-Some.e
     (answered c.entry.result c.entry.ensures.part (sym c.unwrap_or.ensures ∙ c.in-Some.is)) in
     omega arith
 
@@ -61,6 +61,6 @@ returns c =
     let a = c.args in
     let h = c.in-Some.e in
     let p = answered c.entry.result c.entry.ensures.part (sym c.unwrap_or.ensures ∙ c.in-Some.is) in
-    let w = inside (digest_in a.mode.now) a.size a.root.now a.letter.now a.k p in
+    let w = inside (digest_in a.mode.now) a.size a.root.now a.letter.now a.k h p in
     lent_part a.letter h.start h.length _ _ (slice_part h.start h.length a.letter.now w) (omega arith)
     ∙ ap (λ (o : EntryOutcome). part_of o.start o.length a.letter) p
