@@ -1,5 +1,4 @@
 // The line of one batch.
-use evidence_log::Appended;
 use runs::lines::{end_line, say_digest, say_numbers};
 
 // One line: the size, how many joined bytes and lengths there are, and the room; the number, the size and the hash count; the digest of the buffer.
@@ -21,7 +20,7 @@ fn show_batch(
     say_numbers(rt, b" ", &row);
     let answer = batch::append_many(mode, size, records, lengths, nodes);
     let number = refusals::number(&answer);
-    let a = answer.unwrap_or(Appended { size, hashes: 0 });
+    let a = evidence_log::returned(size, answer);
     say_numbers(rt, b":", &[number as u64, a.size, a.hashes]);
     say_digest(rt, b" ", nodes);
     end_line(rt);

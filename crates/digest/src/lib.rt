@@ -5,6 +5,7 @@
 ghost use Rattle.std.specs.Prelude.{◌≡◌, ◌++◌};
 ghost use Rattle.digest.specs.Digest.{digest_in};
 ghost use Rattle.digest.specs.Modes.{plain_mode, moded, key_answer, number_in, key_in};
+ghost use Rattle.wire.specs.Slices.{zeros};
 
 use refusals::Refused;
 
@@ -14,6 +15,15 @@ pub struct Digest {
     pub bytes: [u8; 32],
 }
 
+// What stands beside a refusal.
+impl Default for Digest {
+    ghost is_default = { λ d. d.bytes ≡ zeros 32 };
+
+    fn default() -> Digest {
+        Digest { bytes: [0; 32] }
+    }
+}
+
 // The plain mode.
 pub fn plain() -> [u8; 36]
     ensures { result ≡ plain_mode }
@@ -21,7 +31,7 @@ pub fn plain() -> [u8; 36]
     [0u8; 36]
 }
 
-// The keyed mode of a key of 32 bytes: 24 for any other. A refusal has no mode, so that a caller that forgets it does not get a plain log.
+// The keyed mode of a key of 32 bytes: 24 for any other, and what is handed back then is for `mode_of` to say.
 pub fn keyed(key: &[u8]) -> Result<[u8; 36], Refused>
     ensures { moded result ≡ key_answer key.now }
 {
@@ -33,6 +43,19 @@ pub fn keyed(key: &[u8]) -> Result<[u8; 36], Refused>
     let bytes = wire::read_digest(key, 0);
     wire::write_digest(&mut mode, 4, bytes);
     Ok(mode)
+}
+
+// The mode that a key's answer hands back. Beside a refusal it is keyed too, under a key of zeros: a caller that forgets the number does not get a plain
+// log.
+pub fn mode_of(answer: Result<[u8; 36], Refused>) -> [u8; 36]
+    ensures { result ≡ (moded answer).mode }
+{
+    let Ok(mode) = answer else {
+        let mut mode = [0u8; 36];
+        mode[0] = 1;
+        return mode;
+    };
+    mode
 }
 
 // A mode's number and key.

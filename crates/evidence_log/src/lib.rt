@@ -1,7 +1,7 @@
 // A log's nodes in a lent buffer: append and root.
 #![tactic(auto)]
 
-ghost use Rattle.std.specs.Prelude.{◌≡◌};
+ghost use Rattle.std.specs.Prelude.{◌≡◌, []};
 ghost use Rattle.digest.specs.Digest.{digest_in};
 ghost use Rattle.evidence_log.specs.Outcome.{appended, append_outcome, rooted, root_outcome};
 
@@ -32,6 +32,14 @@ pub fn append(mode: &[u8; 36], size: u64, rec: &[u8], nodes: &mut [u8]) -> Resul
         size: size + hashes,
         hashes,
     })
+}
+
+// The size and the hash count that an append returns, of one record or of many: beside a refusal the size that it was given, and 0.
+pub fn returned(size: u64, answer: Result<Appended, Refused>) -> Appended
+    ensures size { result.size ≡ (appended size answer []).size }
+    ensures hashes { result.hashes ≡ (appended size answer []).hashes }
+{
+    answer.unwrap_or(Appended { size, hashes: 0 })
 }
 
 // The root of a log.

@@ -11,7 +11,8 @@ use runs::lines::{end_line, say_numbers};
 pub(crate) fn grow(size: u64, k: usize, nodes: &mut [u8; 512]) -> u64 {
     let mode = digest::plain();
     let rec = record_of(k);
-    evidence_log::append(&mode, size, front(&rec, length_of(k)), nodes).map_or(size, |a| a.size)
+    let answer = evidence_log::append(&mode, size, front(&rec, length_of(k)), nodes);
+    evidence_log::returned(size, answer).size
 }
 
 // The letter of an index, in the first bytes of an output; its length.
@@ -26,7 +27,7 @@ pub(crate) fn letter_of(size: u64, index: usize, nodes: &[u8; 512], out: &mut [u
         nodes,
         out,
     )
-    .unwrap_or(0)
+    .unwrap_or_default()
 }
 
 // One bit of a byte changed, where there is such a byte.
@@ -51,7 +52,7 @@ pub(crate) fn room_of(n: u64) -> usize
 // The number, and what is found: 1 for "same", 2 for "records", 3 for "pair", 0 for nothing.
 pub(crate) fn show_found(rt: &impl Print, found: Result<Finding, Refused>) {
     let number = refusals::number(&found);
-    let finding = found.map_or(0, u32::from);
+    let finding = found.map(u32::from).unwrap_or_default();
     say_numbers(rt, b":", &[number as u64, finding as u64]);
 }
 

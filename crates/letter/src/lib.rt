@@ -13,7 +13,7 @@ use refusals::Refused;
 pub const HEAD: usize = 20;
 
 // A letter taken apart: the index, and where the record begins and how long it is. The items follow it.
-#[derive(Clone, Copy, PartialEq, Eq)]
+#[derive(Clone, Copy, Default, PartialEq, Eq)]
 pub struct Fields {
     pub index: u64,
     pub start: usize,

@@ -39,7 +39,7 @@ fn show_line(
     let mut out = output();
     let w = letter_writer::write_letter(&mode, size, index as u64, rec, nodes, &mut out);
     let number = refusals::number(&w);
-    let length = w.unwrap_or(0);
+    let length = w.unwrap_or_default();
     let numbers = [leaves as u64, index as u64, number as u64, length as u64];
     say_numbers(rt, b"letter", &numbers);
     show_letter(rt, size, root_of(size, nodes), &out, length, rec);

@@ -9,7 +9,8 @@ use runs::lines::say_numbers;
 pub(crate) fn grow(size: u64, k: usize, nodes: &mut [u8; 1216]) -> u64 {
     let mode = digest::plain();
     let rec = record_of(k);
-    evidence_log::append(&mode, size, front(&rec, length_of(k)), nodes).map_or(size, |a| a.size)
+    let answer = evidence_log::append(&mode, size, front(&rec, length_of(k)), nodes);
+    evidence_log::returned(size, answer).size
 }
 
 // A log of the first n records; its size.
@@ -24,10 +25,9 @@ pub(crate) fn log_of(n: usize, nodes: &mut [u8; 1216]) -> u64 {
 // The root of a log.
 pub(crate) fn root_of(size: u64, nodes: &[u8; 1216]) -> [u8; 32] {
     let mode = digest::plain();
-    match evidence_log::root(&mode, size, nodes) {
-        Ok(root) => root.bytes,
-        Err(_) => [0u8; 32],
-    }
+    evidence_log::root(&mode, size, nodes)
+        .unwrap_or_default()
+        .bytes
 }
 
 // The letter of an index, in the first bytes of an output; its length.
@@ -35,7 +35,7 @@ pub(crate) fn letter_of(size: u64, index: usize, nodes: &[u8; 1216], out: &mut [
     let mode = digest::plain();
     let rec = record_of(index);
     let rec = front(&rec, length_of(index));
-    letter_writer::write_letter(&mode, size, index as u64, rec, nodes, out).unwrap_or(0)
+    letter_writer::write_letter(&mode, size, index as u64, rec, nodes, out).unwrap_or_default()
 }
 
 // An output before a letter is written.
@@ -52,9 +52,8 @@ pub(crate) fn changed_behind(out: &[u8; 16640], n: usize) -> u64 {
 
 // A label, the number, the index, and where the record lies in the letter. A refusal has 0 for these.
 pub(crate) fn show_checked(rt: &impl Print, label: &[u8], c: Result<Fields, Refused>) {
-    let numbers = match c {
-        Ok(f) => [0, f.index, f.start as u64, f.length as u64],
-        Err(why) => [u32::from(why) as u64, 0, 0, 0],
-    };
+    let number = refusals::number(&c);
+    let f = c.unwrap_or_default();
+    let numbers = [number as u64, f.index, f.start as u64, f.length as u64];
     say_numbers(rt, label, &numbers);
 }

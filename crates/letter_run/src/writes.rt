@@ -23,7 +23,7 @@ fn show_write(rt: &impl Print, size: u64, index: u64, rec: &[u8], nodes: &[u8], 
     let lent = room.min(out.len());
     let w = letter_writer::write_letter(&mode, size, index, rec, nodes, &mut out[..lent]);
     let number = refusals::number(&w);
-    let length = w.unwrap_or(0);
+    let length = w.unwrap_or_default();
     say_numbers(rt, b":", &[number as u64, length as u64]);
     say_number(rt, b" differ ", changed_behind(&out, length));
     end_line(rt);

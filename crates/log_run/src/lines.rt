@@ -18,7 +18,7 @@ pub(crate) fn show_appended(
     answer: Result<Appended, Refused>,
 ) {
     let number = refusals::number(&answer);
-    let a = answer.unwrap_or(Appended { size, hashes: 0 });
+    let a = evidence_log::returned(size, answer);
     say_numbers(rt, label, &[number as u64, a.size, a.hashes]);
     end_line(rt);
 }
@@ -27,5 +27,5 @@ pub(crate) fn show_appended(
 pub(crate) fn show_rooted(rt: &impl Print, label: &[u8], answer: Result<Digest, Refused>) {
     let number = refusals::number(&answer);
     say_number(rt, label, number as u64);
-    show_digest(rt, b" ", answer.unwrap_or(Digest { bytes: [0u8; 32] }));
+    show_digest(rt, b" ", answer.unwrap_or_default());
 }

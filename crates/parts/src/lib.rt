@@ -53,6 +53,13 @@ pub fn add(state: Parts, part: &[u8]) -> Result<Parts, Refused>
     Ok(sound.take_in(part))
 }
 
+// The state that `add` hands back: beside a refusal the one that it was given, every field of it.
+pub fn state_after(state: Parts, answer: Result<Parts, Refused>) -> Parts
+    ensures { result ≡ (added state answer).state }
+{
+    answer.unwrap_or(state)
+}
+
 // The digest of what a state holds. The state stays as it is, and more may be added.
 pub fn end(state: Parts) -> Result<Digest, Refused>
     ensures { ended_in result ≡ end_outcome state }

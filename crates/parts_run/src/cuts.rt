@@ -19,7 +19,7 @@ fn taken(state: Parts, bytes: &[u8], length: usize, count: usize) -> Parts {
     let mut s = state;
     for _ in 0..count {
         let from = s.total as usize;
-        s = parts::add(s, part_of(bytes, from, length)).unwrap_or(s);
+        s = parts::state_after(s, parts::add(s, part_of(bytes, from, length)));
     }
     s
 }

@@ -1,5 +1,4 @@
 // The line of a state: its numbers, two words of its stack, its block, and what it ends in.
-use digest::Digest;
 use parts::Parts;
 use refusals::Refused;
 use runs::lines::{end_line, say_digest, say_hex, say_number, say_numbers};
@@ -8,8 +7,7 @@ use runs::lines::{end_line, say_digest, say_hex, say_number, say_numbers};
 pub(crate) fn show_end(rt: &impl Print, s: Parts) {
     let answer = parts::end(s);
     say_number(rt, b" ", refusals::number(&answer) as u64);
-    let none = Digest { bytes: [0u8; 32] };
-    say_hex(rt, b" ", answer.unwrap_or(none).bytes);
+    say_hex(rt, b" ", answer.unwrap_or_default().bytes);
     end_line(rt);
 }
 
@@ -22,7 +20,7 @@ fn show_places(rt: &impl Print, stack: [u32; 240]) {
 // What came of a part: the number, the numbers of the state that there is then, two words of its stack, the digest of its block, and what it ends in.
 pub(crate) fn show_added(rt: &impl Print, state: Parts, answer: Result<Parts, Refused>) {
     let number = refusals::number(&answer);
-    let s = answer.unwrap_or(state);
+    let s = parts::state_after(state, answer);
     let numbers = [
         number as u64,
         s.total,

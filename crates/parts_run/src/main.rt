@@ -9,9 +9,9 @@ mod states;
 use runs::lines::say;
 
 fn main(rt: HostRuntime) {
-    let mode = digest::plain();
-    let plain = parts::begin(&mode);
-    let keyed = parts::begin(&digest::keyed(b"whats the Elvish word for friend").unwrap_or(mode));
+    let plain = parts::begin(&digest::plain());
+    let key = digest::keyed(b"whats the Elvish word for friend");
+    let keyed = parts::begin(&digest::mode_of(key));
     say(&rt, b"plain\n");
     cuts::show_all(&rt, plain);
     states::show_all(&rt, plain);

@@ -3,7 +3,6 @@
 // how many places there are for indexes; how much of the finder's two buffers is lent.
 use crate::given::{at_most, indexes_in, lengths_in, mode_of, number, part};
 use findings::Named;
-use passage_records::Handed;
 use refusals::Refused;
 use runs::given::{first_of, front};
 use runs::lines::{end_line, say, say_digest, say_number, say_numbers};
@@ -40,27 +39,24 @@ fn show_write(rt: &impl Print, mode: &[u8; 36], input: &[u8], row: &[u8]) {
         part(input, row, 10),
         &mut out[..room],
     );
-    say_two(rt, b": write ", refusals::number(&w), w.unwrap_or(0) as u64);
+    let length = w.unwrap_or_default();
+    say_two(rt, b": write ", refusals::number(&w), length as u64);
     show_out(rt, &out, number(row, 17));
 }
 
 // The checker: the number, and how many records there are.
 fn show_check(rt: &impl Print, mode: &[u8; 36], size: u64, root: &[u8], letter: &[u8]) {
     let c = passage_checker::check(mode, size, root, letter);
-    say_two(rt, b" check ", refusals::number(&c), c.unwrap_or(0));
+    say_two(rt, b" check ", refusals::number(&c), c.unwrap_or_default());
 }
 
 // Record k: the number, its index and place; its length and first bytes as it is handed out.
 fn show_entry(rt: &impl Print, mode: &[u8; 36], size: u64, root: &[u8], letter: &[u8], k: u64) {
     let answer = passage_records::entry(mode, size, root, letter, k);
-    let e = answer.unwrap_or(None).unwrap_or(Handed {
-        index: 0,
-        start: 0,
-        length: 0,
-    });
-    say_two(rt, b" entry ", refusals::number(&answer), e.index);
-    word(rt, e.start as u64);
-    word(rt, e.length as u64);
+    let (index, start, length) = passage_records::place_of(answer);
+    say_two(rt, b" entry ", refusals::number(&answer), index);
+    word(rt, start as u64);
+    word(rt, length as u64);
     let rec = passage_records::record_in(mode, size, root, letter, k);
     word(rt, rec.len() as u64);
     word(rt, wire::read8(rec, 0));
@@ -97,7 +93,7 @@ fn show_entries(
         &mut starts,
         &mut lengths,
     );
-    let count = c.unwrap_or(0);
+    let count = c.unwrap_or_default();
     say_two(rt, b" entries ", refusals::number(&c), count);
     show_list(rt, &indexes, count);
     show_list(rt, &starts, count);
@@ -106,10 +102,8 @@ fn show_entries(
 
 // The number, what is found (1 for "same", 2 for "records", 3 for "pair"), the index; whether the two buffers differ then.
 fn show_found(rt: &impl Print, f: Result<Named, Refused>, first: &[u8; 80], second: &[u8; 80]) {
-    let (found, index) = match f {
-        Ok(named) => (u32::from(named), named.index()),
-        Err(_) => (0, 0),
-    };
+    let found = f.map(u32::from).unwrap_or_default();
+    let index = f.map(|named| named.index()).unwrap_or_default();
     say_two(rt, b" find ", refusals::number(&f), found as u64);
     word(rt, index);
     word(rt, wire::differ(first, second) as u64);

@@ -28,9 +28,7 @@ pub(crate) fn mode_of(key: &[u8]) -> [u8; 36] {
     if key.is_empty() {
         return digest::plain();
     }
-    let mut zeros = [0u8; 36];
-    zeros[0] = 1;
-    digest::keyed(key).unwrap_or(zeros)
+    digest::mode_of(digest::keyed(key))
 }
 
 // The indexes in a part, eight bytes each. One function for these and the lengths would be handed the type, the width and the reader.

@@ -7,7 +7,7 @@ use std::io;
 // The line of a call: its label, what it is given, the number and the value, which is 0 on a refusal.
 fn show(rt: &impl Print, label: &str, given: u64, answer: Result<u64, Refused>) -> io::Result<()> {
     let number = refusals::number(&answer);
-    let value = answer.unwrap_or(0);
+    let value = answer.unwrap_or_default();
     println!(rt; "{label} {given}: {number} {value}")
 }
 

@@ -6,8 +6,9 @@ ghost use Rattle.refusals.specs.Numbers.{number_in, outcome_by};
 ghost use Rattle.digest.specs.Digest.{digest_in};
 ghost use Rattle.stored.specs.Read.{read_outcome};
 
+use digest::Digest;
 use refusals::Refused;
-use runs::given::{filled, front};
+use runs::given::{fill, filled, front};
 use runs::lines::{end_line, say, say_digest, say_hex, say_number, say_numbers};
 use stored::{Node, Reading};
 
@@ -37,7 +38,7 @@ fn leaf_length(mode: &[u8; 36], bytes: &[u8]) -> Result<usize, Refused>
 fn say_read(rt: &impl Print, read: Result<Reading, Refused>) {
     let Ok(reading) = read else {
         say(rt, b" none");
-        say_hex(rt, b" ", [0; 32]);
+        say_hex(rt, b" ", Digest::default().bytes);
         return;
     };
     match reading.node {
@@ -57,14 +58,14 @@ fn show_read(rt: &impl Print, mode: &[u8; 36], bytes: &[u8]) {
         &[bytes.len() as u64, refusals::number(&wanted) as u64],
     );
     say_read(rt, stored::read_node(mode, bytes));
-    say_number(rt, b" ", wanted.unwrap_or(0) as u64);
+    say_number(rt, b" ", wanted.unwrap_or_default() as u64);
     say_digest(rt, b" ", stored::record_of(mode, bytes));
     end_line(rt);
 }
 
 // The end of a line on what was written: the number, the length, the digest of as many bytes, that of the buffer. Then what is read there.
 fn show_written(rt: &impl Print, written: Result<usize, Refused>, out: &[u8]) {
-    let length = written.unwrap_or(0);
+    let length = written.unwrap_or_default();
     say_numbers(rt, b"", &[refusals::number(&written) as u64, length as u64]);
     say_digest(rt, b" ", front(out, length));
     say_digest(rt, b" ", out);
@@ -99,9 +100,12 @@ fn try_inner(rt: &impl Print, digest: [u8; 32], out: &mut [u8], room: usize) {
     show_written(rt, stored_writer::write_inner(digest, out), out);
 }
 
-// Reads the first n bytes of a node with this flag and stated record length.
+// Reads the first n bytes of a node with this flag and stated record length. It and the others that are marked so are not opened where they are called:
+// their buffers would all lie in the frame of `main`.
+#[inline(never)]
 fn try_node(rt: &impl Print, flag: u8, stated: u32, n: usize) {
-    let mut node = filled::<ROOM>(0);
+    let mut node = [0; ROOM];
+    fill(0, &mut node);
     wire::write_byte(&mut node, 0, flag);
     wire::write4(&mut node, 33, stated);
     say_numbers(rt, b"node", &[flag as u64, stated as u64]);
@@ -153,19 +157,21 @@ fn mode_of(keyed: bool) -> [u8; 36] {
     digest::plain()
 }
 
-// A buffer with the leaf of the first n counting bytes, in which bits of two bytes were changed.
-fn edited(keyed: bool, n: usize, flips: [Flip; 2]) -> [u8; ROOM] {
-    let mut node = filled::<ROOM>(0);
-    let _ = stored_writer::write_leaf(&mode_of(keyed), front(&filled::<ROOM>(0), n), &mut node);
+// The leaf of the first n counting bytes over the front of a buffer, in which bits of two bytes are changed then.
+#[inline(never)]
+fn edit(keyed: bool, n: usize, flips: [Flip; 2], node: &mut [u8; ROOM]) {
+    let mut bytes = [0; ROOM];
+    fill(0, &mut bytes);
+    let _ = stored_writer::write_leaf(&mode_of(keyed), front(&bytes, n), node);
     for (at, bits) in flips {
         if let Some(b) = node.get_mut(at) {
             *b ^= bits;
         }
     }
-    node
 }
 
 // A line on such a leaf: its record's length, and each place with the bits that are changed there. Then what is read in its first bytes.
+#[inline(never)]
 fn try_edit(rt: &impl Print, keyed: bool, n: usize, length: usize, flips: [Flip; 2]) {
     let [(at, bits), (other, more)] = flips;
     say_numbers(
@@ -174,7 +180,10 @@ fn try_edit(rt: &impl Print, keyed: bool, n: usize, length: usize, flips: [Flip;
         &[n as u64, at as u64, bits as u64, other as u64, more as u64],
     );
     end_line(rt);
-    show_read(rt, &mode_of(keyed), front(&edited(keyed, n, flips), length));
+    let mut node = [0; ROOM];
+    fill(0, &mut node);
+    edit(keyed, n, flips, &mut node);
+    show_read(rt, &mode_of(keyed), front(&node, length));
 }
 
 // The leaf of n bytes: true; then edited in the flag, in the first byte of the digest and in the last, in the record length at both ends, in the
@@ -217,11 +226,16 @@ fn try_orders(rt: &impl Print) {
 }
 
 // A leaf of one mode read in another or in its own, and an inner node, whose digest is of neither.
+#[inline(never)]
 fn try_mode(rt: &impl Print, of: bool, keyed: bool) {
     let mode = mode_of(keyed);
     say(rt, b"mode 200\n");
-    show_read(rt, &mode, front(&edited(of, 200, [NONE, NONE]), 237));
-    show_read(rt, &mode, front(&filled::<ROOM>(0), 33));
+    let mut node = [0; ROOM];
+    fill(0, &mut node);
+    edit(of, 200, [NONE, NONE], &mut node);
+    show_read(rt, &mode, front(&node, 237));
+    fill(0, &mut node);
+    show_read(rt, &mode, front(&node, 33));
 }
 
 // Leaves plain and keyed, edited in every region, and in the order; then each read in its own mode and in the other one.
