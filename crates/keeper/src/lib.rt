@@ -125,6 +125,6 @@ pub extern "C" fn keeper_root(mode: &[u8; 36], size: u64, nodes: &[u8], out: &mu
     let answer = evidence_log::root(mode, size, nodes);
     match answer {
         Ok(root) => kept::hand(root.bytes, out),
-        Err(why) => u32::from(why),
+        Err(why) => u32::from(why), // no root is written
     }
 }

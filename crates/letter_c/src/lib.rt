@@ -49,7 +49,7 @@ pub extern "C" fn keeper_letter_check(
             *record_len = f.length;
             0
         }
-        Err(why) => u32::from(why),
+        Err(why) => u32::from(why), // the letter is not accepted
     }
 }
 
@@ -75,6 +75,6 @@ pub extern "C" fn keeper_find(
             *found = u32::from(finding);
             0
         }
-        Err(why) => u32::from(why),
+        Err(why) => u32::from(why), // nothing is found
     }
 }

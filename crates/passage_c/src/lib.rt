@@ -70,7 +70,7 @@ pub extern "C" fn keeper_passage_entry(
             *record_len = 0;
             0
         }
-        Err(why) => u32::from(why),
+        Err(why) => u32::from(why), // no record is handed out
     }
 }
 

@@ -1,4 +1,5 @@
--- What was foreseen is answered before anything is written, and where nothing was the records are appended one after the other.
+-- What was foreseen is answered before anything is written, and where nothing was the records are appended one after the other. That comes first, as a
+-- batch that foresees less is refused there.
 use mathlib.Core.Path.{refl, sym, ap, ◌∙◌}
 use native.Mathlib.Omega.{arith}
 use Rattle.std.proofs.lemmas.Result.{err_from_is_err_and}
@@ -11,6 +12,14 @@ use Rattle.batch.specs.Batch.{begun}
 use Rattle.batch.proofs.OneByOne.{run_counts}
 use Rattle.batch.proofs.Outcome.{batch_1, foreseen_refused, foreseen_sum, foreseen_done}
 use Rattle.batch.proofs.append_many.Goals as goal
+
+pub returns : goal.returns
+returns c =
+    let a = c.args in
+    let k = counts_leaves c.leaf_count.ensures c.in_ok-n.was in
+    foreseen_done (digest_in a.mode.now) a.size a.records.now a.lengths.now a.nodes.now (digest_length a.mode.now) k
+    (sym (ap number_in c.in_ok-foresee.was) ∙ c.foresee.ensures)
+    refl refl c.append_each-grown.ensures
 
 pub returns-in_err-n : goal.returns-in_err-n
 returns-in_err-n c =
@@ -41,11 +50,3 @@ overflow_sub-result c =
       c.append_each-grown.ensures.size,
       run_counts (digest_in a.mode.now) (begun a.size a.nodes.now) (cut a.lengths.now a.records.now),
     )
-
-pub returns : goal.returns
-returns c =
-    let a = c.args in
-    let k = counts_leaves c.leaf_count.ensures c.in_ok-n.was in
-    foreseen_done (digest_in a.mode.now) a.size a.records.now a.lengths.now a.nodes.now (digest_length a.mode.now) k
-    (sym (ap number_in c.in_ok-foresee.was) ∙ c.foresee.ensures)
-    refl refl c.append_each-grown.ensures

@@ -22,9 +22,9 @@ returns-in-Pair-default c =
 pub returns-in_default-Some : goal.returns-in_default-Some
 returns-in_default-Some c =
     let a = c.args in
-    rw c.in_default-Some.is-1 (as_records (told a.highest) _ _ a.first.now a.second.now _ _ _ c.in_default-Some.not-Pair-0 c.in_ok-finding.ensures)
+    rw c.in_default-Some.is-1 (as_records (told a.highest) _ _ a.first.now a.second.now _ _ _ (search rules) c.in_ok-finding.ensures)
 
 pub returns-in_default-None : goal.returns-in_default-None
 returns-in_default-None c =
     let a = c.args in
-    rw c.in_default-None.is-1 (as_records (told a.highest) _ _ a.first.now a.second.now _ _ _ c.in_default-None.not-Pair-0 c.in_ok-finding.ensures)
+    rw c.in_default-None.is-1 (as_records (told a.highest) _ _ a.first.now a.second.now _ _ _ (search rules) c.in_ok-finding.ensures)

@@ -15,7 +15,7 @@ use Rattle.letter.specs.declared.Fields.{Fields}
 use Rattle.letter.specs.Checking.{taken_apart, behind_order, fields_order, fields_outcome, from7}
 use Rattle.letter.proofs.Apart.{Apart, apart, worked_slices}
 use Rattle.letter_checker.specs.Outcome.{check_order, check_outcome}
-use Rattle.letter_checker.proofs.Answers.{fields_refuse, root_refuses, all_pass}
+use Rattle.letter_checker.proofs.Answers.{letter_refused, root_refuses, all_pass}
 use borrow.Author.Rules.{rules}
 use Rattle.letter_checker.proofs.check.Goals as goal
 
@@ -44,10 +44,8 @@ returns-then-root-ne32 c =
 
 pub returns-in_err-f : goal.returns-in_err-f
 returns-in_err-f c =
-    let k = counts_leaves c.leaf_count.ensures c.in_ok-n.was in
     let p = err_from_is_err_and c.from_residual-in_err-f.result c.from_residual-in_err-f.ensures.1 in
-    rw (p.1, p.2)
-    (fields_refuse _ _ _ _ k.number c.if-root-ne32.false (fielded _ _ _ k c.take_apart.ensures) c.in_err-f.was)
+    rw (p.1, p.2) (letter_refused _ _ _ _ c.leaf_count.ensures c.in_ok-n.was c.if-root-ne32.false c.take_apart.ensures c.in_err-f.was)
 
 pub overflow_add-end : goal.overflow_add-end
 overflow_add-end c =
@@ -69,17 +67,17 @@ slice_bounds-root_of-start-2 c =
     let t = taken _ _ (counts_leaves c.leaf_count.ensures c.in_ok-n.was) c.take_apart.ensures c.in_ok-f.was in
     omega (arith, t.exact)
 
--- the root worked out is that of the letter
-pub returns-then-differ : goal.returns-then-differ
-returns-then-differ c =
-    let k = counts_leaves c.leaf_count.ensures c.in_ok-n.was in
-    let t = taken c.args.size c.args.letter.now k c.take_apart.ensures c.in_ok-f.was in
-    root_refuses (digest_in c.args.mode.now) _ _ _ k.number c.if-root-ne32.false t {made = c.root_of-made.result.bytes}
-    (worked_slices _ _ _ _ t (digest_in c.args.mode.now) (rw k.value c.root_of-made.ensures)) (λ z. omega (arith, ap bit c.if-differ.true, z))
-
+-- the root worked out is that of the letter; first where all passes, as a checker that accepts every root is refused there
 pub returns : goal.returns
 returns c =
     let k = counts_leaves c.leaf_count.ensures c.in_ok-n.was in
     let t = taken c.args.size c.args.letter.now k c.take_apart.ensures c.in_ok-f.was in
     all_pass (digest_in c.args.mode.now) _ _ _ k.number c.if-root-ne32.false t {made = c.root_of-made.result.bytes}
     (worked_slices _ _ _ _ t (digest_in c.args.mode.now) (rw k.value c.root_of-made.ensures)) (omega (arith, ap bit c.if-differ.false))
+
+pub returns-then-differ : goal.returns-then-differ
+returns-then-differ c =
+    let k = counts_leaves c.leaf_count.ensures c.in_ok-n.was in
+    let t = taken c.args.size c.args.letter.now k c.take_apart.ensures c.in_ok-f.was in
+    root_refuses (digest_in c.args.mode.now) _ _ _ k.number c.if-root-ne32.false t {made = c.root_of-made.result.bytes}
+    (worked_slices _ _ _ _ t (digest_in c.args.mode.now) (rw k.value c.root_of-made.ensures)) (λ z. omega (arith, ap bit c.if-differ.true, z))

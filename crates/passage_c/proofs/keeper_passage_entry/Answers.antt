@@ -1,6 +1,7 @@
 -- `passage_c::keeper_passage_entry` meets its contract: what the checker answers of record k, and its three results where it is done.
-use mathlib.Core.Path.{sym, ap, ◌∙◌}
+use mathlib.Core.Path.{sym, ap, ap₂, ◌∙◌}
 use Prim.Native.Nat.{ℕ}
+use native.Mathlib.Omega.{arith}
 use Rattle.refusals.proofs.Laws.{number_above}
 use Rattle.passage_records.specs.Outcome.{handed, handed_back}
 use Rattle.passage_c.specs.Calls.{entry_left}
@@ -22,6 +23,6 @@ returns-in-Ok-None c =
 pub returns-in-Err : goal.returns-in-Err
 returns-in-Err c =
     let a = c.args in
-    ap (λ (n : ℕ). entry_left n a.index.now a.record_at.now a.record_len.now) c.from.ensures
+    ap₂ (λ (n i : ℕ). entry_left n i a.record_at.now a.record_len.now) (omega (arith, number_above c.in-Err.why)) (omega arith)
     ∙ entry_refused_lem a.mode.now a.size a.root.now a.letter.now a.k a.index.now a.record_at.now a.record_len.now
     (number_above c.in-Err.why) (sym (ap handed c.in-Err.is) ∙ c.entry.ensures.part)

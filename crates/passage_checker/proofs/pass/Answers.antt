@@ -117,19 +117,7 @@ returns-then-letter-f c =
     fields_refuse (digest_in a.mode.now) a.size a.root.now a.letter.now k.number c.if-root-ne32.false (omega arith)
     (exact_refuses a.size (leaves a.size) a.letter.now (front a.size a.letter.now k c.in_ok-f.ensures) (λ h. omega (arith, e)))
 
--- and the root is the letter's
-pub returns-then-differ : goal.returns-then-differ
-returns-then-differ c =
-    let a = c.args in
-    let k = counts_leaves c.leaf_count.ensures c.in_ok-n.was in
-    let digest = digest_in a.mode.now in
-    let t = fielded a.size a.letter.now k c.in_ok-f.ensures c.root_of-made.ensures.used_is c.if-letter-f.false in
-    let worked : c.root_of-made.result.digest.bytes ≡ worked_root digest (leaves a.size) a.letter.now =
-    worked_slices a.size (leaves a.size) a.letter.now t digest
-    (digest_length a.mode.now) (rw k.value k.most) (rw k.value c.root_of-made.ensures.root_is) in
-    root_refuses digest a.size a.root.now a.letter.now k.number c.if-root-ne32.false t
-    worked (λ z. omega (arith, ap bit c.if-differ.true, c.differ.ensures, z))
-
+-- and the root is the letter's; first where all passes, as a checker that accepts every root is refused there
 pub returns : goal.returns
 returns c =
     let a = c.args in
@@ -141,3 +129,15 @@ returns c =
     (digest_length a.mode.now) (rw k.value k.most) (rw k.value c.root_of-made.ensures.root_is) in
     all_pass digest a.size a.root.now a.letter.now k.number c.if-root-ne32.false t
     worked (omega (arith, c.differ.ensures, ap bit c.if-differ.false))
+
+pub returns-then-differ : goal.returns-then-differ
+returns-then-differ c =
+    let a = c.args in
+    let k = counts_leaves c.leaf_count.ensures c.in_ok-n.was in
+    let digest = digest_in a.mode.now in
+    let t = fielded a.size a.letter.now k c.in_ok-f.ensures c.root_of-made.ensures.used_is c.if-letter-f.false in
+    let worked : c.root_of-made.result.digest.bytes ≡ worked_root digest (leaves a.size) a.letter.now =
+    worked_slices a.size (leaves a.size) a.letter.now t digest
+    (digest_length a.mode.now) (rw k.value k.most) (rw k.value c.root_of-made.ensures.root_is) in
+    root_refuses digest a.size a.root.now a.letter.now k.number c.if-root-ne32.false t
+    worked (λ z. omega (arith, ap bit c.if-differ.true, c.differ.ensures, z))

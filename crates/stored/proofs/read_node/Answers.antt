@@ -49,16 +49,16 @@ pub worked_out-worked-requires : goal.worked_out-worked-requires
 unfolding stated_in
 worked_out-worked-requires c = search rules
 
-pub returns-then-differ : goal.returns-then-differ
-unfolding stated_in
-returns-then-differ c =
-    let l : lies (digest_in c.args.mode.now) c.args.bytes.now ≡ 1 =
-    sym (c.differ.ensures ∙ lies_by _ c.args.bytes.now c.worked_out-worked.ensures (omega arith)) ∙ ap bit c.if-differ.true in
-    leaf_refuses 18 _ _ (search rules) (search rules)
-
 pub returns : goal.returns
 unfolding stated_in named_in
 returns c =
     let l : lies (digest_in c.args.mode.now) c.args.bytes.now ≡ 0 =
     sym (c.differ.ensures ∙ lies_by _ c.args.bytes.now c.worked_out-worked.ensures (omega arith)) ∙ ap bit c.if-differ.false in
     passes _ _ _ (ap₂ leaf_read c.read4-stated.ensures c.read_digest-2.ensures) (search rules) ∙ sym (read_leaf _ _ (search rules))
+
+pub returns-then-differ : goal.returns-then-differ
+unfolding stated_in
+returns-then-differ c =
+    let l : lies (digest_in c.args.mode.now) c.args.bytes.now ≡ 1 =
+    sym (c.differ.ensures ∙ lies_by _ c.args.bytes.now c.worked_out-worked.ensures (omega arith)) ∙ ap bit c.if-differ.true in
+    leaf_refuses 18 _ _ (search rules) (search rules)

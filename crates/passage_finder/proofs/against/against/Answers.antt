@@ -47,20 +47,7 @@ returns-in_err-apart c =
     (own_whole c.requires a.mode.now a.nodes.now a.records.now a.lengths.now c.in_err-apart.ensures))
     (search rules)
 
-pub returns-then-w : goal.returns-then-w
-unfolding comparing
-returns-then-w c =
-    let a = c.args in
-    let known : Whole c.requires a.mode.now a.nodes.now c.walk_of-w.result = whole c.requires a.mode.now a.nodes.now c.leaf_digests-leaves.ensures c.walk_of-w.ensures in
-    let e = sym (ap bit c.if-digests_differ.false) ∙ c.digests_differ.ensures ∙ ap₂ differ known.log known.worked in
-    let own = own_whole c.requires a.mode.now a.nodes.now a.records.now a.lengths.now c.in_ok-apart.ensures in
-    let b = sym (ap bit c.if-w.true) ∙ known.broken in
-    passes _ _ _
-    (owned_passed (digest_in a.mode.now) (node_in a.nodes.now) (indexes_in a.letter.now) a.records.now a.lengths.now
-    (places a.letter.now) a.letter.now own _ a.n _
-    (refuses 14 _ _ _ refl (search rules)))
-    (search rules)
-
+-- settled: first, as a finder that never answers 14 is refused there
 pub returns : goal.returns
 unfolding comparing records_in
 returns c =
@@ -77,4 +64,18 @@ returns c =
     passes _ _ _
     (owned_passed (digest_in a.mode.now) (node_in a.nodes.now) (indexes_in a.letter.now) a.records.now a.lengths.now
     (places a.letter.now) a.letter.now own _ a.n _ (passes _ _ _ y (search rules)))
+    (search rules)
+
+pub returns-then-w : goal.returns-then-w
+unfolding comparing
+returns-then-w c =
+    let a = c.args in
+    let known : Whole c.requires a.mode.now a.nodes.now c.walk_of-w.result = whole c.requires a.mode.now a.nodes.now c.leaf_digests-leaves.ensures c.walk_of-w.ensures in
+    let e = sym (ap bit c.if-digests_differ.false) ∙ c.digests_differ.ensures ∙ ap₂ differ known.log known.worked in
+    let own = own_whole c.requires a.mode.now a.nodes.now a.records.now a.lengths.now c.in_ok-apart.ensures in
+    let b = sym (ap bit c.if-w.true) ∙ known.broken in
+    passes _ _ _
+    (owned_passed (digest_in a.mode.now) (node_in a.nodes.now) (indexes_in a.letter.now) a.records.now a.lengths.now
+    (places a.letter.now) a.letter.now own _ a.n _
+    (refuses 14 _ _ _ refl (search rules)))
     (search rules)
