@@ -29,7 +29,7 @@ module _ (digest : List ℕ → List ℕ) (size : ℕ) (root letter : List ℕ) 
       late check_refused (1 if (count_answer size).number is 1 ∷ 12 if length root is_not 32 ∷ []) (from7 digest size (leaves size) root letter)
       (check_done letter) ((λ z. omega arith), (wide, tt)) f
 
-  fields_refuse : {r : Result Fields Refused} {why : Refused} → taken_apart r ≡ fields_outcome size (leaves size) letter → r ≡ Err why
+  pub fields_refuse : {r : Result Fields Refused} {why : Refused} → taken_apart r ≡ fields_outcome size (leaves size) letter → r ≡ Err why
       → check_refused (number_of why) ≡ check_outcome digest size root letter
   unfolding from7
   fields_refuse {why = why} e w =

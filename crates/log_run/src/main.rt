@@ -38,7 +38,7 @@ fn append_next(
 ) -> u64 {
     let rec = record_of(i);
     let answer = append_lent(size, &rec, n, nodes, 2624);
-    let next = answer.map_or(size, |a| a.size);
+    let next = evidence_log::returned(size, answer).size;
     if shown {
         say_number(rt, b"append ", i as u64);
         say_number(rt, b", record of length ", n as u64);

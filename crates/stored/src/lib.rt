@@ -71,6 +71,16 @@ pub fn read_node(mode: &[u8; 36], bytes: &[u8]) -> Result<Reading, Refused>
     })
 }
 
+// The digest that a read hands back: the one in the node, or beside a refusal 32 zeros.
+pub fn digest_named(read: Result<Reading, Refused>) -> [u8; 32]
+    ensures { result ≡ (read_off read).digest }
+{
+    match read {
+        Ok(reading) => reading.digest,
+        Err(_) => [0; 32],
+    }
+}
+
 // The digest of a leaf's record, which in a leaf of the exact length is all that stands behind the record length.
 fn worked_out(mode: &[u8; 36], bytes: &[u8]) -> [u8; 32]
     requires { length bytes.now ≡ 37 + stated_in bytes.now }

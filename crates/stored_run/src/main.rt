@@ -6,7 +6,6 @@ ghost use Rattle.refusals.specs.Numbers.{number_in, outcome_by};
 ghost use Rattle.digest.specs.Digest.{digest_in};
 ghost use Rattle.stored.specs.Read.{read_outcome};
 
-use digest::Digest;
 use refusals::Refused;
 use runs::given::{fill, filled, front};
 use runs::lines::{end_line, say, say_digest, say_hex, say_number, say_numbers};
@@ -34,18 +33,14 @@ fn leaf_length(mode: &[u8; 36], bytes: &[u8]) -> Result<usize, Refused>
     Ok(length)
 }
 
-// A node that was read, or that there is none, as it is printed.
+// A node that was read, or that there is none, as it is printed, and the digest that is handed back.
 fn say_read(rt: &impl Print, read: Result<Reading, Refused>) {
-    let Ok(reading) = read else {
-        say(rt, b" none");
-        say_hex(rt, b" ", Digest::default().bytes);
-        return;
+    match read.map(|reading| reading.node) {
+        Ok(Node::Inner) => say(rt, b" inner"),
+        Ok(Node::Leaf(_)) => say(rt, b" leaf"),
+        Err(_) => say(rt, b" none"),
     };
-    match reading.node {
-        Node::Inner => say(rt, b" inner"),
-        Node::Leaf(_) => say(rt, b" leaf"),
-    };
-    say_hex(rt, b" ", reading.digest);
+    say_hex(rt, b" ", stored::digest_named(read));
 }
 
 // A line on what is read in bytes: their length; the number, the kind and the digest; the record's length, and the plain digest of the part that is
